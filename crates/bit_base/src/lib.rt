@@ -1,0 +1,6 @@
+//! Bits, texts and places: the values that every layer speaks of.
+#![tactic(auto)]
+
+pub mod bits;
+pub mod place;
+pub mod text;
