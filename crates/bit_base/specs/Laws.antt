@@ -1,6 +1,6 @@
 -- What is true of bits and their numbers, whatever the bits are.
-use Rattle.std.specs.Prelude.{◌≡◌, ℕ, ◌+◌, ◌-◌, ◌*◌, ◌/◌, ◌%◌, ◌^◌, ◌<◌, ◌≤◌, Bool, true, false, if◌then◌else◌, List, [], ◌∷◌, ◌++◌, length, ℤ, pos, ◌-ℤ◌}
-use Rattle.bit_base.specs.Numbers.{number_of, sign_of, signed_number_of, low_bits, extended, sliced}
+use Rattle.std.specs.Prelude.{◌≡◌, ℕ, ◌+◌, ◌*◌, ◌/◌, ◌%◌, ◌^◌, ◌<◌, ◌≤◌, Bool, true, false, if◌then◌else◌, List, [], ◌∷◌, ◌++◌, length, pos, ◌-ℤ◌}
+use Rattle.bit_base.specs.Numbers.{number_of, signed_number_of, low_bits, extended, sliced}
 
 -- so many bits stand for a number below the power
 abbrev pub NumberIsBelow : Type 0

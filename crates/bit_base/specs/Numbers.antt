@@ -22,7 +22,7 @@ low_bits zero number = []
 low_bits (suc width) number = (number % 2 == 1) ∷ low_bits width (number / 2)
 
 -- the bits at another width: cut where it is less, else filled up with the sign where they are
--- signed, and with false where they aren't (IEEE 1364-2005, 5.5.4)
+-- signed, and with false where they aren't (IEEE 1364-2005, 5.5.2)
 abbrev pub extended : ℕ → Bool → List Bool → List Bool
 extended width signed bits = take width bits ++ replicate (width - length bits) (signed && sign_of bits)
 

@@ -116,5 +116,7 @@ pub fn slice(alloc: Global, bits: &Bits, low: u32, width: u32) -> Result<Bits, A
 {
     let low = low as usize;
     let part = &bits.as_slice()[low..low + width as usize];
-    Ok(Bits { bits: part.to_vec(alloc)? })
+    Ok(Bits {
+        bits: part.to_vec(alloc)?,
+    })
 }
