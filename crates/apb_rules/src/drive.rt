@@ -3,6 +3,8 @@
 ghost use Rattle.std.specs.Prelude.{◌≡◌, ◌<◌, ◌^◌};
 ghost use Rattle.apb_rules.specs.Lines.{IsBusBytes, strobe_line, prot_line};
 ghost use Rattle.apb_rules.specs.Drive.{driven};
+ghost use Rattle.apb_rules.specs.Legal.{IsLegalIn};
+ghost use Rattle.apb_rules.specs.Moves.{choice_of};
 
 use crate::phase::Phase;
 use crate::style::BusStyle;
@@ -13,7 +15,9 @@ pub fn drive(phase: Phase, choice: Choice, bytes: u32, style: BusStyle) -> BusWi
     requires bytes { IsBusBytes bytes }
     requires strobe { choice.strobe < 2 ^ bytes }
     requires prot { choice.prot < 8 }
-    ensures { result ≡ driven style bytes phase choice }
+    ensures exact { result ≡ driven style bytes phase choice }
+    ensures drives_legal { IsLegalIn style bytes phase result }
+    ensures legal_is_driven { (wires : BusWires) → IsLegalIn style bytes phase wires → choice ≡ choice_of wires → result ≡ wires }
 {
     match phase {
         Phase::Free if choice.start => BusWires {
@@ -51,7 +55,7 @@ pub fn drive(phase: Phase, choice: Choice, bytes: u32, style: BusStyle) -> BusWi
 }
 
 // What PSTRB counts as where the master has this strobe to give.
-fn strobe_of(strobe: u32, bytes: u32, style: BusStyle) -> u32
+pub(crate) fn strobe_of(strobe: u32, bytes: u32, style: BusStyle) -> u32
     requires { IsBusBytes bytes }
     ensures { result ≡ strobe_line style bytes strobe }
 {
@@ -63,7 +67,7 @@ fn strobe_of(strobe: u32, bytes: u32, style: BusStyle) -> u32
 }
 
 // What PPROT counts as where the master has this protection to give.
-fn prot_of(prot: u32, style: BusStyle) -> u32
+pub(crate) fn prot_of(prot: u32, style: BusStyle) -> u32
     ensures { result ≡ prot_line style prot }
 {
     if style.prot { prot } else { 0 }

@@ -3,6 +3,9 @@
 
 pub mod drive;
 pub mod event;
+pub mod legal;
 pub mod phase;
 pub mod style;
+#[cfg(test)]
+mod tests;
 pub mod wires;
