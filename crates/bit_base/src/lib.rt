@@ -2,5 +2,8 @@
 #![tactic(auto)]
 
 pub mod bits;
+pub mod laws;
 pub mod place;
+#[cfg(test)]
+mod tests;
 pub mod text;

@@ -4,6 +4,7 @@ ghost use Rattle.std.specs.Prelude.{◌≡◌, ℕ, List, length};
 ghost use Rattle.std.specs.Result.{IfOk};
 
 use std::alloc::{AllocError, Global};
+use std::convert::From;
 use std::marker::Model;
 use std::vec::Vec;
 
@@ -35,9 +36,20 @@ impl Text {
     }
 }
 
+impl From<Vec<u8>> for Text {
+    ghost from_gives = { λ bytes text. text ≡ bytes.items };
+
+    /// The text of these bytes, which are moved and not copied.
+    fn from(bytes: Vec<u8>) -> Text {
+        Text { bytes }
+    }
+}
+
 /// The text of these bytes.
 pub fn text_of(alloc: Global, bytes: &[u8]) -> Result<Text, AllocError>
     ensures { IfOk result (λ text. text ≡ bytes.now) }
 {
-    Ok(Text { bytes: bytes.to_vec(alloc)? })
+    Ok(Text {
+        bytes: bytes.to_vec(alloc)?,
+    })
 }
