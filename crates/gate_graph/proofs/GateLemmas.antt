@@ -1,11 +1,11 @@
 -- Values of wires, graphs that grow, and the values of gates.
-use Rattle.std.proofs.Common.{◌≡◌, ◌≢◌, ℕ, ◌+◌, ◌*◌, ◌/◌, ◌%◌, ◌<◌, ◌≤◌, Bool, true, false, not, ◌&&◌, eqb, cond, List, [], ◌∷◌, ◌++◌, length, slice_get, Option, Some, arith, refl, sym, ap, ◌∙◌, ◌⊎◌, inl, inr, length-append, eq-eqb, ne_eqb}
+use Rattle.std.proofs.Common.{◌≡◌, ◌≢◌, ℕ, ◌+◌, ◌*◌, ◌/◌, ◌%◌, ◌≤◌, Bool, true, false, not, ◌&&◌, eqb, List, [], ◌∷◌, ◌++◌, length, arith, refl, sym, ◌∙◌, ◌⊎◌, inl, inr, length-append, eq-eqb, ne_eqb}
 use Rattle.std.proofs.lemmas.Option.{slice_get_within}
 use Rattle.std.proofs.lemmas.Bool.{cases_eq}
 use Rattle.gate_graph.specs.declared.wires.Wire.{Wire}
 use Rattle.gate_graph.specs.declared.nodes.Node.{Node}
-use Rattle.gate_graph.specs.declared.nodes.Node.TheVariants.{Zero, Latch, Input, And}
-use Rattle.gate_graph.specs.Gates.{wire_value, Obeys, Respects, IsOf, AreOf, Extends, Keeps, latch_count, input_count, Means, IsLow, AreLow, IsGraph}
+use Rattle.gate_graph.specs.declared.nodes.Node.TheVariants.{Zero, And}
+use Rattle.gate_graph.specs.Gates.{wire_value, Respects, IsOf, AreOf, Extends, Keeps, Means, IsGraph}
 use Rattle.gate_graph.proofs.GraphLemmas.{latch_count-push, input_count-push}
 use Rattle.gate_graph.proofs.ListLemmas.{get_kept, get_last}
 
@@ -24,7 +24,8 @@ extends_push ns a b = record {
   grows = omega (arith, length-append ns (And a b ∷ []));
   bound = omega (arith, length-append ns (And a b ∷ []));
   latches = omega (arith, latch_count-push ns (And a b));
-  inputs = omega (arith, input_count-push ns (And a b)) }
+  inputs = omega (arith, input_count-push ns (And a b));
+}
 
 pub keeps_push : (ns : List Node) (n : Node) → Keeps ns (ns ++ n ∷ [])
 keeps_push ns n = record { kept = λ i x h. get_kept ns n x i h; grows = omega (arith, length-append ns (n ∷ [])) }
@@ -96,45 +97,54 @@ not_and false = refl
 
 opposites : (v : ℕ → Bool) (a b : Wire) → a.0 / 2 ≡ b.0 / 2 → a.0 ≢ b.0 → (wire_value v a && wire_value v b) ≡ false
 opposites v a b same differ = elim (cases_eq (a.0 % 2) 0) [
-    inl p ↦ rw (value_even v a p, value_odd v b (omega arith), same) (and_not (v (b.0 / 2)))
-  | inr p ↦ rw (value_odd v a (omega arith), value_even v b (omega arith), same) (not_and (v (b.0 / 2))) ]
+  | inl p ↦ rw (value_even v a p, value_odd v b (omega arith), same) (and_not (v (b.0 / 2)))
+  | inr p ↦ rw (value_odd v a (omega arith), value_even v b (omega arith), same) (not_and (v (b.0 / 2)))
+]
 
 -- the constant wire
 pub means_zero : (nodes : List Node) (w : Wire) → IsGraph nodes → w.0 ≡ 0 → Means nodes w (λ v. false)
 means_zero nodes w g h = record {
   of = omega (arith, slice_get_within nodes 0 Zero g.low.first);
-  value = λ v r. value_zero v nodes w g r h }
+  value = λ v r. value_zero v nodes w g r h;
+}
 
 -- conjunctions that need no gate
 pub and_with_zero : (nodes : List Node) (a b w : Wire) → IsGraph nodes → w.0 ≡ 0 → (a.0 ≡ 0) ⊎ ((a.0 ≡ 0 → ⊥) × (b.0 ≡ 0)) → Means nodes w (λ v. wire_value v a && wire_value v b)
 and_with_zero nodes a b w g h either = record {
   of = omega (arith, slice_get_within nodes 0 Zero g.low.first);
   value = λ v r. rw (value_zero v nodes w g r h) (sym (elim either [
-      inl p ↦ rw (value_zero v nodes a g r p) refl
-    | inr p ↦ rw (value_zero v nodes b g r p.1) (and_false (wire_value v a)) ])) }
+    | inl p ↦ rw (value_zero v nodes a g r p) refl
+    | inr p ↦ rw (value_zero v nodes b g r p.1) (and_false (wire_value v a))
+  ]));
+}
 
 pub and_with_one : (nodes : List Node) (a b : Wire) → IsGraph nodes → IsOf b nodes → (a.0 ≡ 1) ⊎ ((a.0 ≡ 1 → ⊥) × (a.0 ≡ b.0)) → Means nodes b (λ v. wire_value v a && wire_value v b)
 and_with_one nodes a b g of either = record {
   of = of;
   value = λ v r. sym (elim either [
-      inl p ↦ rw (value_one v nodes a g r p) refl
-    | inr p ↦ rw (same_value v a b p.1) (and_same (wire_value v b)) ]) }
+    | inl p ↦ rw (value_one v nodes a g r p) refl
+    | inr p ↦ rw (same_value v a b p.1) (and_same (wire_value v b))
+  ]);
+}
 
 pub one_with_and : (nodes : List Node) (a b : Wire) → IsGraph nodes → IsOf a nodes → b.0 ≡ 1 → Means nodes a (λ v. wire_value v a && wire_value v b)
 one_with_and nodes a b g of p = record {
   of = of;
-  value = λ v r. sym (rw (value_one v nodes b g r p) (and_true (wire_value v a))) }
+  value = λ v r. sym (rw (value_one v nodes b g r p) (and_true (wire_value v a)));
+}
 
 pub and_of_opposites : (nodes : List Node) (a b w : Wire) → IsGraph nodes → w.0 ≡ 0 → a.0 / 2 ≡ b.0 / 2 → a.0 ≢ b.0 → Means nodes w (λ v. wire_value v a && wire_value v b)
 and_of_opposites nodes a b w g h same differ = record {
   of = omega (arith, slice_get_within nodes 0 Zero g.low.first);
-  value = λ v r. rw (value_zero v nodes w g r h) (sym (opposites v a b same differ)) }
+  value = λ v r. rw (value_zero v nodes w g r h) (sym (opposites v a b same differ));
+}
 
 -- a gate added at the end
 pub and_by_gate : (nodes : List Node) (a b w : Wire) → w.0 ≡ 2 * length nodes → Means (nodes ++ And a b ∷ []) w (λ v. wire_value v a && wire_value v b)
 and_by_gate nodes a b w h = record {
   of = omega (arith, length-append nodes (And a b ∷ []));
   value = λ v r.
-    let e : w.0 / 2 ≡ length nodes = omega arith in
-    let g : v (length nodes) ≡ (wire_value v a && wire_value v b) = r.gate (length nodes) (And a b) (get_last nodes (And a b)) in
-    rw (value_even v w (omega arith), e) g }
+      let e : w.0 / 2 ≡ length nodes = omega arith in
+      let g : v (length nodes) ≡ (wire_value v a && wire_value v b) = r.gate (length nodes) (And a b) (get_last nodes (And a b)) in
+      rw (value_even v w (omega arith), e) g;
+}

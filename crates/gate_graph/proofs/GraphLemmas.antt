@@ -1,13 +1,12 @@
 -- What a graph is stays as nodes are added at its end.
-use Rattle.std.proofs.Common.{◌≡◌, ◌≢◌, ℕ, ◌+◌, ◌*◌, ◌/◌, ◌^◌, ◌<◌, ◌≤◌, List, [], ◌∷◌, ◌++◌, length, slice_get, Option, Some, arith, refl, sym, ap, ◌∙◌, ◌⊎◌, inl, inr, length-append, subst, zero, suc}
-use Rattle.std.proofs.lemmas.Option.{slice_get_within}
+use Rattle.std.proofs.Common.{◌≡◌, ℕ, ◌+◌, ◌^◌, ◌<◌, ◌≤◌, List, [], ◌∷◌, ◌++◌, length, slice_get, Some, arith, refl, sym, ◌∙◌, inl, inr, length-append, subst, zero, suc}
 use Rattle.gate_graph.specs.Values.{IsNumbered}
 use Rattle.gate_graph.specs.declared.wires.Wire.{Wire}
 use Rattle.gate_graph.specs.declared.nodes.Node.{Node}
 use Rattle.gate_graph.specs.declared.nodes.Node.TheVariants.{Zero, Latch, Input, And}
 use Rattle.gate_graph.specs.Gates.{IsLow, AreLow, AreCounted, IsGraph, latch_count, input_count}
 use Rattle.gate_graph.specs.Held.{IsHeld}
-use Rattle.gate_graph.proofs.ListLemmas.{get_kept, get_last, get_push}
+use Rattle.gate_graph.proofs.ListLemmas.{get_kept, get_push}
 
 pub latches_within : (ns : List Node) → latch_count ns ≤ length ns
 latches_within [] = omega arith
@@ -61,8 +60,10 @@ pub low_push : (ns : List Node) (n : Node) → AreLow ns → IsLow (length ns) n
 low_push ns n low h = record {
   first = get_kept ns n Zero 0 low.first;
   gate = λ i a b at. elim (get_push ns n (And a b) i at) [
-      inl p ↦ low.gate i a b p
-    | inr p ↦ low_at i (length ns) n (And a b) p.0 p.1 h ] }
+    | inl p ↦ low.gate i a b p
+    | inr p ↦ low_at i (length ns) n (And a b) p.0 p.1 h
+  ];
+}
 
 -- the number of a latch node is below the number of latches
 pub latch_within : (ns : List Node) (i n l x : ℕ) → AreCounted l x ns → slice_get ns i ≡ Some (Latch n) → n < l + latch_count ns
@@ -110,18 +111,21 @@ held_latch ns l x h room = record {
   graph = record { low = low_push ns (Latch l) h.graph.low tt; counted = counted_push ns (Latch l) 0 0 h.graph.counted (omega (arith, h.latched), tt) };
   small = omega (arith, length-append ns (Latch l ∷ []));
   latched = omega (arith, h.latched, latch_count-push ns (Latch l));
-  numbered = omega (arith, h.numbered, input_count-push ns (Latch l)) }
+  numbered = omega (arith, h.numbered, input_count-push ns (Latch l));
+}
 
 pub held_input : (ns : List Node) (l x : ℕ) → IsHeld ns l x → length ns + 1 < 2 ^ 31 → IsHeld (ns ++ Input x ∷ []) l (x + 1)
 held_input ns l x h room = record {
   graph = record { low = low_push ns (Input x) h.graph.low tt; counted = counted_push ns (Input x) 0 0 h.graph.counted (omega (arith, h.numbered), tt) };
   small = omega (arith, length-append ns (Input x ∷ []));
   latched = omega (arith, h.latched, latch_count-push ns (Input x));
-  numbered = omega (arith, h.numbered, input_count-push ns (Input x)) }
+  numbered = omega (arith, h.numbered, input_count-push ns (Input x));
+}
 
 pub held_and : (ns : List Node) (l x : ℕ) (a b : Wire) → IsHeld ns l x → length ns + 1 < 2 ^ 31 → IsLow (length ns) (And a b) → IsHeld (ns ++ And a b ∷ []) l x
 held_and ns l x a b h room low = record {
   graph = record { low = low_push ns (And a b) h.graph.low low; counted = counted_push ns (And a b) 0 0 h.graph.counted tt };
   small = omega (arith, length-append ns (And a b ∷ []));
   latched = omega (arith, h.latched, latch_count-push ns (And a b));
-  numbered = omega (arith, h.numbered, input_count-push ns (And a b)) }
+  numbered = omega (arith, h.numbered, input_count-push ns (And a b));
+}

@@ -1,15 +1,15 @@
 -- The value of a node looks at lower nodes alone.
-use Rattle.std.proofs.Common.{◌≡◌, ◌≢◌, ℕ, zero, suc, ◌+◌, ◌*◌, ◌/◌, ◌%◌, ◌<◌, ◌≤◌, Bool, true, false, not, ◌&&◌, eqb, cond, List, [], ◌∷◌, ◌++◌, length, slice_get, Option, Some, arith, refl, sym, ap, ◌∙◌, ◌⊎◌, inl, inr, length-append, get_or, set, get_or-set_other, get_or-set_same, subst}
-use Rattle.std.proofs.lemmas.Option.{slice_get_within, get_or_from_slice_get, slice_get-get_or}
-use Rattle.std.proofs.lemmas.Bool.{cases_eq, cases_lt}
+use Rattle.std.proofs.Common.{◌≡◌, ◌≢◌, ℕ, zero, suc, ◌+◌, ◌*◌, ◌/◌, ◌<◌, ◌≤◌, Bool, false, List, [], ◌∷◌, ◌++◌, length, slice_get, Some, arith, refl, sym, ◌∙◌, inl, inr, length-append, get_or, set, get_or-set_other, get_or-set_same, subst}
+use Rattle.std.proofs.lemmas.Option.{slice_get_within, slice_get-get_or}
+use Rattle.std.proofs.lemmas.Bool.{cases_eq}
 use Rattle.std.proofs.lemmas.List.{get_or_append_left}
 use Rattle.std.proofs.Math.Seq.{get_or-append_seam}
 use Rattle.gate_graph.specs.declared.wires.Wire.{Wire}
 use Rattle.gate_graph.specs.declared.nodes.Node.{Node}
 use Rattle.gate_graph.specs.declared.nodes.Node.TheVariants.{Zero, Latch, Input, And}
-use Rattle.gate_graph.specs.Gates.{wire_value, Obeys, Respects, IsLow, AreLow, IsGraph, latch_count, input_count}
-use Rattle.gate_graph.specs.Values.{at, node_value, IsValuation, IsNumbered, value, values_from}
-use Rattle.gate_graph.proofs.GraphLemmas.{node_low, node_numbered}
+use Rattle.gate_graph.specs.Gates.{wire_value, Obeys, Respects, IsLow, IsGraph}
+use Rattle.gate_graph.specs.Values.{at, node_value, IsValuation, value, values_from}
+use Rattle.gate_graph.proofs.GraphLemmas.{node_low}
 
 pub wire_value_below : (v u : ℕ → Bool) (w : Wire) (k : ℕ) → w.0 < 2 * k → ((j : ℕ) → j < k → v j ≡ u j) → wire_value v w ≡ wire_value u w
 unfolding wire_value
@@ -28,21 +28,24 @@ pub record AreDone (s x : List Bool) (v : ℕ → Bool) (nodes : List Node) (i :
 -- one value more
 pub done_more : (s x : List Bool) (v u : ℕ → Bool) (nodes : List Node) (i : ℕ) (n : Node) → IsGraph nodes → AreDone s x v nodes i → slice_get nodes i ≡ Some n
     → ((j : ℕ) → j < i → u j ≡ v j) → u i ≡ node_value s x v n → AreDone s x u nodes (i + 1)
-done_more s x v u nodes i n g done here below last = record { node = λ k m lt h.
-  let same : node_value s x u m ≡ node_value s x v m = node_value_below s x u v k m (node_low nodes k m g h) (λ j p. below j (omega arith)) in
-  elim (cases_eq k i) [
-    inl p ↦
-      let at_i : slice_get nodes i ≡ Some m = subst (λ j. slice_get nodes j ≡ Some m) p h in
-      let e : n ≡ m = cc in
-      let last' : u i ≡ node_value s x v m = subst (λ (y : Node). u i ≡ node_value s x v y) e last in
-      subst (λ j. u j ≡ node_value s x u m) (sym p) (last' ∙ sym same)
-  | inr p ↦ (below k (omega arith) ∙ done.node k m (omega arith) h) ∙ sym same ] }
+done_more s x v u nodes i n g done here below last = record {
+  node = λ k m lt h.
+      let same : node_value s x u m ≡ node_value s x v m = node_value_below s x u v k m (node_low nodes k m g h) (λ j p. below j (omega arith)) in
+      elim (cases_eq k i) [
+        | inl p ↦
+            let at_i : slice_get nodes i ≡ Some m = subst (λ j. slice_get nodes j ≡ Some m) p h in
+            let e : n ≡ m = cc in
+            let last' : u i ≡ node_value s x v m = subst (λ (y : Node). u i ≡ node_value s x v y) e last in
+            subst (λ j. u j ≡ node_value s x u m) (sym p) (last' ∙ sym same)
+        | inr p ↦ (below k (omega arith) ∙ done.node k m (omega arith) h) ∙ sym same
+      ];
+}
 
 -- a value written into a table
 pub done_set : (s x t : List Bool) (nodes : List Node) (i : ℕ) (b : Bool) → IsGraph nodes → length t ≡ length nodes → i < length nodes → AreDone s x (at t) nodes i
     → b ≡ node_value s x (at t) (get_or nodes i Zero) → AreDone s x (at (set t i b)) nodes (i + 1)
 done_set s x t nodes i b g long lt done e =
-  done_more s x (at t) (at (set t i b)) nodes i (get_or nodes i Zero) g done (slice_get-get_or nodes i Zero lt)
+    done_more s x (at t) (at (set t i b)) nodes i (get_or nodes i Zero) g done (slice_get-get_or nodes i Zero lt)
     (λ j p. let ne : j ≢ i = omega arith in get_or-set_other t i j b false ne)
     (let within : i < length t = omega arith in get_or-set_same t i b false within ∙ e)
 
@@ -53,10 +56,10 @@ done_all s x v nodes i done le = record { node = λ k n h. done.node k n (omega 
 pub agree_below : (s x : List Bool) (v u : ℕ → Bool) (nodes : List Node) (i : ℕ) → IsGraph nodes → IsValuation s x v nodes → IsValuation s x u nodes → i ≤ length nodes → (j : ℕ) → j < i → v j ≡ u j
 agree_below s x v u nodes zero g p q le j lt = absurd (omega arith)
 agree_below s x v u nodes (suc i) g p q le j lt =
-  let n : Node = get_or nodes j Zero in
-  let here : slice_get nodes j ≡ Some n = slice_get-get_or nodes j Zero (omega arith) in
-  let below : (k : ℕ) → k < j → v k ≡ u k = λ k h. agree_below s x v u nodes i g p q (omega arith) k (omega arith) in
-  (p.node j n here ∙ node_value_below s x v u j n (node_low nodes j n g here) below) ∙ sym (q.node j n here)
+    let n : Node = get_or nodes j Zero in
+    let here : slice_get nodes j ≡ Some n = slice_get-get_or nodes j Zero (omega arith) in
+    let below : (k : ℕ) → k < j → v k ≡ u k = λ k h. agree_below s x v u nodes i g p q (omega arith) k (omega arith) in
+    (p.node j n here ∙ node_value_below s x v u j n (node_low nodes j n g here) below) ∙ sym (q.node j n here)
 
 pub agree : (s x : List Bool) (v u : ℕ → Bool) (nodes : List Node) → IsGraph nodes → IsValuation s x v nodes → IsValuation s x u nodes → (j : ℕ) → j < length nodes → v j ≡ u j
 agree s x v u nodes g p q j lt = agree_below s x v u nodes (length nodes) g p q (omega arith) j lt
@@ -67,15 +70,15 @@ pub done_from : (s x done : List Bool) (ns nodes : List Node) → IsGraph nodes 
     → AreDone s x (at done) nodes (length done) → AreDone s x (at (values_from s x done ns)) nodes (length nodes)
 done_from s x done [] nodes g long tail h = let e : length done ≡ length nodes = omega arith in subst (λ i. AreDone s x (at done) nodes i) e h
 done_from s x done (n ∷ ns) nodes g long tail h =
-  let b : Bool = node_value s x (at done) n in
-  let more : length (done ++ b ∷ []) ≡ length done + 1 = length-append done (b ∷ []) in
-  let place : length done + 0 ≡ length done = omega arith in
-  let here : slice_get nodes (length done) ≡ Some n = subst (λ i. slice_get nodes i ≡ Some n) place (tail 0 n refl) in
-  let step : AreDone s x (at (done ++ b ∷ [])) nodes (length done + 1) =
+    let b : Bool = node_value s x (at done) n in
+    let more : length (done ++ b ∷ []) ≡ length done + 1 = length-append done (b ∷ []) in
+    let place : length done + 0 ≡ length done = omega arith in
+    let here : slice_get nodes (length done) ≡ Some n = subst (λ i. slice_get nodes i ≡ Some n) place (tail 0 n refl) in
+    let step : AreDone s x (at (done ++ b ∷ [])) nodes (length done + 1) =
     done_more s x (at done) (at (done ++ b ∷ [])) nodes (length done) n g h here
-      (λ j p. get_or_append_left done (b ∷ []) false j p)
-      (get_or-append_seam done b [] false) in
-  done_from s x (done ++ b ∷ []) ns nodes g (omega arith)
+    (λ j p. get_or_append_left done (b ∷ []) false j p)
+    (get_or-append_seam done b [] false) in
+    done_from s x (done ++ b ∷ []) ns nodes g (omega arith)
     (λ j m p. let e : length done + suc j ≡ length (done ++ b ∷ []) + j = omega arith in subst (λ i. slice_get nodes i ≡ Some m) e (tail (suc j) m p))
     (subst (λ i. AreDone s x (at (done ++ b ∷ [])) nodes i) (sym more) step)
 
@@ -83,9 +86,9 @@ done_from s x done (n ∷ ns) nodes g long tail h =
 pub value_is : (s x : List Bool) (nodes : List Node) → IsGraph nodes → IsValuation s x (value s x nodes) nodes
 unfolding value
 value_is s x nodes g =
-  done_all s x (at (values_from s x [] nodes)) nodes (length nodes)
+    done_all s x (at (values_from s x [] nodes)) nodes (length nodes)
     (done_from s x [] nodes nodes g (omega arith) (λ j n h. let e : j ≡ 0 + j = omega arith in subst (λ i. slice_get nodes i ≡ Some n) e h)
-      (record { node = λ k n lt h. absurd (omega arith) }))
+    (record { node = λ k n lt h. absurd (omega arith) }))
     (omega arith)
 
 -- values under latches and inputs respect the gates

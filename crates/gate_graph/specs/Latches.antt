@@ -1,5 +1,5 @@
 -- The starts of a circuit's latches.
-use Rattle.std.specs.Prelude.{◌≡◌, Bool, true, false, List, slice_get, Option, Some, map}
+use Rattle.std.specs.Prelude.{◌≡◌, Bool, true, false, List, slice_get, Some, map}
 use Rattle.gate_graph.specs.declared.parts.Start.{Start}
 use Rattle.gate_graph.specs.declared.parts.Start.TheVariants as start
 use Rattle.gate_graph.specs.declared.parts.Latch.{Latch}

@@ -1,6 +1,6 @@
 -- Runs of a circuit. A run of m edges is its first state and the inputs at each edge; a state is the list of
 -- the latches' values, in the order of their numbers.
-use Rattle.std.specs.Prelude.{◌≡◌, ℕ, Bool, true, false, List, [], ◌∷◌, slice_get, Option, Some, map}
+use Rattle.std.specs.Prelude.{◌≡◌, ℕ, Bool, false, List, [], ◌∷◌, slice_get, Some, map}
 use Rattle.gate_graph.specs.declared.parts.Latch.{Latch}
 use Rattle.gate_graph.specs.declared.circuits.Circuit.{Circuit}
 use Rattle.gate_graph.specs.Gates.{wire_value}

@@ -5,12 +5,11 @@ ghost use Rattle.gate_graph.specs.declared.nodes.Node.TheVariants.{Zero, Latch, 
 ghost use Rattle.gate_graph.specs.Gates.{wire_value, IsOf, Extends, Keeps, Means, IsLow, IsGraph, IsSimple, latch_count, input_count};
 ghost use Rattle.gate_graph.specs.Values.{at, IsValuation, node_value};
 
-use std::alloc::{AllocError, Global};
-use std::marker::Model;
-
 use crate::nodes::Node;
 use crate::values::evaluate;
 use crate::wires::Wire;
+use std::alloc::{AllocError, Global};
+use std::marker::Model;
 
 /// A list of nodes. Node 0 is `Zero`, the wires of each gate are of two different lower nodes, and
 /// the latch nodes and the input nodes are each counted from 0 in the order of the list.

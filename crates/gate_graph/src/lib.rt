@@ -7,9 +7,8 @@ pub mod graphs;
 pub mod laws;
 pub mod nodes;
 pub mod parts;
-pub mod wires;
-
 mod values;
+pub mod wires;
 
 pub use circuits::Circuit;
 pub use graphs::Graph;

@@ -1,8 +1,7 @@
 //! A graph and a circuit, built and evaluated.
 
-use std::test::Fail;
-
 use crate::{Circuit, Graph, Latch, Node, Start};
+use std::test::Fail;
 
 /// One latch, one input, and a gate over each pair of wires; expected values worked out by hand.
 #[test]

@@ -1,6 +1,6 @@
-use Rattle.std.proofs.Common.{arith, length, ◌<◌, ◌≤◌, slice_get, Some, ◌≡◌, get_or}
+use Rattle.std.proofs.Common.{arith}
 use Rattle.std.proofs.lemmas.Option.{slice_get-get_or}
-use Rattle.gate_graph.proofs.GraphLemmas.{node_numbered, node_low}
+use Rattle.gate_graph.proofs.GraphLemmas.{node_numbered}
 use Rattle.gate_graph.specs.declared.nodes.Node.TheVariants.{Zero}
 use Rattle.gate_graph.proofs.ValueLemmas.{done_set, done_all}
 use Rattle.gate_graph.proofs.values.evaluate.Goals as goal

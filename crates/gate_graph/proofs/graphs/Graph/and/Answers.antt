@@ -1,4 +1,4 @@
-use Rattle.std.proofs.Common.{refl, inl, inr, arith, sym, ◌≡◌, ◌++◌, ◌∷◌, [], length, ◌*◌}
+use Rattle.std.proofs.Common.{refl, arith, ◌≡◌, length, ◌*◌}
 use Rattle.gate_graph.proofs.GateLemmas.{and_with_zero, and_with_one, one_with_and, and_of_opposites, and_by_gate, extends_push}
 use Rattle.gate_graph.proofs.GraphLemmas.{held_and}
 use Rattle.gate_graph.proofs.graphs.Graph.and.Goals as goal

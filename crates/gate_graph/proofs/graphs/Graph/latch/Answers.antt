@@ -1,4 +1,4 @@
-use Rattle.std.proofs.Common.{refl, arith, ◌≡◌, ◌++◌, ◌∷◌, [], length, ◌*◌, ◌+◌, ◌<◌, ◌^◌}
+use Rattle.std.proofs.Common.{arith}
 use Rattle.gate_graph.proofs.GateLemmas.{keeps_push}
 use Rattle.gate_graph.proofs.GraphLemmas.{held_latch, held_within}
 use Rattle.gate_graph.proofs.graphs.Graph.latch.Goals as goal
