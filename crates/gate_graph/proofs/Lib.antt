@@ -1,0 +1,4 @@
+pub mod ListLemmas
+pub mod GateLemmas
+pub mod GraphLemmas
+pub mod ValueLemmas

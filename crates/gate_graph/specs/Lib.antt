@@ -1,0 +1,6 @@
+pub mod Counted
+pub mod Gates
+pub mod Held
+pub mod Latches
+pub mod Runs
+pub mod Values

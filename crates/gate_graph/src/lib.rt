@@ -1,0 +1,20 @@
+//! And-inverter graphs: nodes that are constants, latches, inputs and gates, wires that may invert
+//! them, and circuits whose latches go from edge to edge.
+#![tactic(auto)]
+
+pub mod circuits;
+pub mod graphs;
+pub mod laws;
+pub mod nodes;
+pub mod parts;
+mod values;
+pub mod wires;
+
+pub use circuits::Circuit;
+pub use graphs::Graph;
+pub use nodes::Node;
+pub use parts::{Latch, Start};
+pub use wires::Wire;
+
+#[cfg(test)]
+mod tests;
