@@ -1,0 +1,3 @@
+pub mod FieldPath
+pub mod Fields
+pub mod Maps
