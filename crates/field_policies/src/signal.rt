@@ -1,5 +1,8 @@
 //! Signals between hardware and fields.
 
+ghost use Rattle.std.specs.Prelude.{◌≡◌};
+ghost use Rattle.field_policies.specs.Expressions.{shows};
+
 /// What hardware gives to a field's property: one bit, or the bits of a field's width
 /// (SystemRDL 2.0, clause 9, hardware access properties and references).
 #[derive(Clone, Copy, Debug, PartialEq, Eq, Drop)]
@@ -64,6 +67,25 @@ pub struct Shown {
     pub overflow: bool,
     pub underflow: bool,
     pub intr: bool,
+}
+
+impl Shown {
+    /// Whether this output is among them.
+    pub fn has(&self, signal: OutSignal) -> bool
+        ensures { result ≡ shows self.now signal }
+    {
+        match signal {
+            OutSignal::Value => self.value,
+            OutSignal::SwMod => self.swmod,
+            OutSignal::SwAcc => self.swacc,
+            OutSignal::Anded => self.anded,
+            OutSignal::Ored => self.ored,
+            OutSignal::Xored => self.xored,
+            OutSignal::Overflow => self.overflow,
+            OutSignal::Underflow => self.underflow,
+            OutSignal::Intr => self.intr,
+        }
+    }
 }
 
 /// A hardware input: the field that it belongs to, what it is there, and its bits.
