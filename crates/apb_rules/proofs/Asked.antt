@@ -1,5 +1,5 @@
 -- Over whole lists: each transfer of a legal master is answered once, at its end.
-use Rattle.std.proofs.Common.{◌≡◌, ℕ, Bool, true, false, ◌&&◌, List, [], ◌∷◌, ◌++◌, map, inl, inr, refl, sym, ◌∙◌, ap, if◌then◌else◌, arith}
+use Rattle.std.proofs.Common.{◌≡◌, ℕ, List, [], ◌∷◌, ◌++◌, map, inl, inr, refl}
 use Rattle.std.specs.List.{All}
 use Rattle.std.proofs.lemmas.Bool.{cases_Bool}
 use Rattle.std.proofs.lemmas.List.Elements.{All-head, All-tail}
@@ -7,11 +7,10 @@ use Rattle.apb_rules.specs.declared.style.BusStyle.{BusStyle}
 use Rattle.apb_rules.specs.declared.wires.BusWires.{BusWires}
 use Rattle.apb_rules.specs.declared.phase.Held.{Held}
 use Rattle.apb_rules.specs.declared.event.BusEvent.{BusEvent}
-use Rattle.apb_rules.specs.declared.event.BusEvent.TheVariants.{Nothing, Read, Write}
-use Rattle.apb_rules.specs.Lines.{strobe_line}
+use Rattle.apb_rules.specs.declared.event.BusEvent.TheVariants.{Nothing}
 use Rattle.apb_rules.specs.Phases.{held_of}
 use Rattle.apb_rules.specs.Events.{asked, bus_event}
-use Rattle.apb_rules.specs.Legal.{FitsLines, IsIdle, IsSetup, IsAccess}
+use Rattle.apb_rules.specs.Legal.{IsIdle, IsSetup, IsAccess}
 use Rattle.apb_rules.specs.Master.{BusEdge, IsWait, IsEnd, Traffic, asked_over, events}
 use Rattle.apb_rules.proofs.Edges.{strobe_line-same}
 

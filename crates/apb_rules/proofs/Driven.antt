@@ -1,18 +1,17 @@
 -- Over whole lists: what choices drive is a legal master, and each legal master is driven.
-use Rattle.std.proofs.Common.{◌≡◌, ℕ, zero, suc, ◌^◌, ◌<◌, ◌⊎◌, Bool, true, false, List, [], ◌∷◌, map, take, drop, inl, inr, refl, sym, ◌∙◌, ap, arith}
+use Rattle.std.proofs.Common.{◌≡◌, ℕ, zero, suc, ◌^◌, ◌<◌, Bool, false, List, [], ◌∷◌, map, take, inl, inr, refl, sym, ◌∙◌, ap}
 use Rattle.std.specs.Prelude.{⊤}
 use Rattle.std.specs.List.{All}
 use Rattle.std.proofs.lemmas.Bool.{cases_Bool, true≢false}
-use Rattle.std.proofs.lemmas.List.Elements.{All-nil, All-cons, All-head, All-tail, All-map}
+use Rattle.std.proofs.lemmas.List.Elements.{All-nil, All-cons, All-head, All-tail}
 use Rattle.apb_rules.specs.declared.style.BusStyle.{BusStyle}
 use Rattle.apb_rules.specs.declared.wires.BusWires.{BusWires}
-use Rattle.apb_rules.specs.declared.wires.Choice.{Choice}
 use Rattle.apb_rules.specs.declared.phase.Phase.{Phase}
 use Rattle.apb_rules.specs.declared.phase.Phase.TheVariants.{Free, Access}
 use Rattle.apb_rules.specs.Lines.{strobe_line, prot_line}
-use Rattle.apb_rules.specs.Phases.{held_of, phase_after}
-use Rattle.apb_rules.specs.Drive.{driven, idle}
-use Rattle.apb_rules.specs.Legal.{FitsLines, IsIdle, IsSetup, IsAccess, IsLegalIn}
+use Rattle.apb_rules.specs.Phases.{phase_after}
+use Rattle.apb_rules.specs.Drive.{idle}
+use Rattle.apb_rules.specs.Legal.{IsIdle, IsLegalIn}
 use Rattle.apb_rules.specs.Master.{BusEdge, Traffic, IsLegalMaster, IsLegalFrom}
 use Rattle.apb_rules.specs.Moves.{Move, FitsBus, choice_of, move_of, calm, edges_of}
 use Rattle.apb_rules.proofs.Edges.{drives_legal, legal_is_driven, idle_again, idle_fits, strobe_line-fits, prot_line-fits}

@@ -1,5 +1,5 @@
 -- What holds at one edge: driven wires are legal, and legal wires are driven.
-use Rattle.std.proofs.Common.{◌≡◌, ℕ, ◌-◌, ◌*◌, ◌/◌, ◌%◌, ◌^◌, ◌<◌, ◌⊎◌, Bool, true, false, inl, inr, if◌then◌else◌, refl, sym, ◌∙◌, arith}
+use Rattle.std.proofs.Common.{◌≡◌, ℕ, ◌-◌, ◌*◌, ◌/◌, ◌%◌, ◌^◌, ◌<◌, Bool, false, inl, inr, if◌then◌else◌, refl, sym, ◌∙◌, arith}
 use Rattle.std.proofs.lemmas.Bool.{cases_Bool}
 use Rattle.std.proofs.lemmas.Nat.{pow_pos}
 use Rattle.std.proofs.Math.Pow.{pow-sub-lt}
@@ -7,12 +7,11 @@ use Rattle.std.proofs.Math.Nat.{mod-add-div, mul-mod_right}
 use Rattle.apb_rules.specs.declared.style.BusStyle.{BusStyle}
 use Rattle.apb_rules.specs.declared.wires.BusWires.{BusWires}
 use Rattle.apb_rules.specs.declared.wires.Choice.{Choice}
-use Rattle.apb_rules.specs.declared.phase.Held.{Held}
 use Rattle.apb_rules.specs.declared.phase.Phase.{Phase}
 use Rattle.apb_rules.specs.declared.phase.Phase.TheVariants.{Free, Access}
-use Rattle.apb_rules.specs.Lines.{all_bytes, strobe_line, prot_line}
-use Rattle.apb_rules.specs.Drive.{driven, idle, setup, access}
-use Rattle.apb_rules.specs.Legal.{FitsLines, IsIdle, IsSetup, IsAccess, IsLegalIn}
+use Rattle.apb_rules.specs.Lines.{strobe_line, prot_line}
+use Rattle.apb_rules.specs.Drive.{driven, idle, setup}
+use Rattle.apb_rules.specs.Legal.{FitsLines, IsIdle, IsSetup, IsLegalIn}
 use Rattle.apb_rules.specs.Moves.{FitsBus, choice_of}
 
 -- an address less its remainder is a multiple

@@ -1,18 +1,15 @@
 -- Over whole lists: the traffic of a legal master is what is legal edge by edge.
-use Rattle.std.proofs.Common.{◌≡◌, ℕ, zero, suc, ◌^◌, ◌<◌, ◌⊎◌, Bool, true, false, List, [], ◌∷◌, ◌++◌, map, take, drop, inl, inr, refl, sym, ◌∙◌, ap, subst, if◌then◌else◌, length, arith}
+use Rattle.std.proofs.Common.{◌≡◌, ℕ, true, List, [], ◌∷◌, ◌++◌, inl, inr, subst}
 use Rattle.std.specs.List.{All}
 use Rattle.std.proofs.lemmas.Bool.{cases_Bool}
 use Rattle.std.proofs.lemmas.List.Elements.{All-nil, All-cons, All-head, All-tail}
 use Rattle.std.proofs.lemmas.List.{append-nil}
 use Rattle.apb_rules.specs.declared.style.BusStyle.{BusStyle}
-use Rattle.apb_rules.specs.declared.wires.BusWires.{BusWires}
-use Rattle.apb_rules.specs.declared.wires.Choice.{Choice}
 use Rattle.apb_rules.specs.declared.phase.Held.{Held}
-use Rattle.apb_rules.specs.declared.phase.Phase.{Phase}
 use Rattle.apb_rules.specs.declared.phase.Phase.TheVariants.{Free, Access}
 use Rattle.apb_rules.specs.Phases.{held_of, phase_after}
-use Rattle.apb_rules.specs.Legal.{FitsLines, IsIdle, IsSetup, IsAccess, IsLegalIn}
-use Rattle.apb_rules.specs.Master.{BusEdge, IsWait, IsEnd, Traffic, IsLegalMaster, IsLegalFrom}
+use Rattle.apb_rules.specs.Legal.{IsSetup, IsAccess, IsLegalIn}
+use Rattle.apb_rules.specs.Master.{BusEdge, IsWait, IsEnd, Traffic, IsLegalFrom}
 
 module _ (style : BusStyle) (bytes : ℕ) where
   -- what can follow within the access phase of a transfer: wait states, and then the end and more

@@ -1,5 +1,5 @@
 -- What a master drives that follows the protocol and is free to choose the rest.
-use Rattle.std.specs.Prelude.{ℕ, ◌-◌, ◌%◌, ◌&&◌, not, true, false, if◌then◌else◌}
+use Rattle.std.specs.Prelude.{ℕ, ◌-◌, ◌%◌, true, false, if◌then◌else◌}
 use Rattle.apb_rules.specs.declared.style.BusStyle.{BusStyle}
 use Rattle.apb_rules.specs.declared.wires.BusWires.{BusWires}
 use Rattle.apb_rules.specs.declared.wires.Choice.{Choice}

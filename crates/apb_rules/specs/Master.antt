@@ -1,12 +1,11 @@
 -- The legal master: what a master may drive over a whole list of edges, told by its transfers
 -- (AMBA APB, transfers: write and read transfers, with and without wait states).
-use Rattle.std.specs.Prelude.{◌≡◌, ℕ, Bool, true, false, List, [], ◌∷◌, ◌++◌, ◌⊎◌, ⊤, take, drop, map}
+use Rattle.std.specs.Prelude.{◌≡◌, ℕ, Bool, true, false, List, [], ◌∷◌, ◌++◌, ⊤, take, drop, map}
 use Rattle.std.specs.List.{All}
 use Rattle.apb_rules.specs.declared.style.BusStyle.{BusStyle}
 use Rattle.apb_rules.specs.declared.wires.BusWires.{BusWires}
 use Rattle.apb_rules.specs.declared.phase.Held.{Held}
 use Rattle.apb_rules.specs.declared.phase.Phase.{Phase}
-use Rattle.apb_rules.specs.declared.phase.Phase.TheVariants.{Free}
 use Rattle.apb_rules.specs.declared.event.BusEvent.{BusEvent}
 use Rattle.apb_rules.specs.declared.event.BusEvent.TheVariants.{Nothing}
 use Rattle.apb_rules.specs.Phases.{held_of, phase_after}

@@ -1,5 +1,5 @@
 -- The counter step (SystemRDL 2.0, clause 9, counter properties).
-use Rattle.std.specs.Prelude.{ℕ, ◌-◌, ◌^◌, Bool, true, false, if◌then◌else◌, ℤ, pos, ◌+ℤ◌, ◌-ℤ◌, int_lt, nat_abs}
+use Rattle.std.specs.Prelude.{ℕ, ◌-◌, ◌^◌, Bool, if◌then◌else◌, ℤ, pos, ◌+ℤ◌, ◌-ℤ◌, int_lt, nat_abs}
 use Rattle.field_policies.specs.declared.extra.Counter.{Counter}
 use Rattle.field_extras.specs.declared.counter.Counted.{Counted}
 

@@ -1,5 +1,5 @@
 -- The interrupt step (SystemRDL 2.0, clause 9, interrupt properties).
-use Rattle.std.specs.Prelude.{◌≡◌, ◌≢◌, ℕ, ◌-◌, ◌^◌, Bool, true, false, not, ◌&&◌, ◌||◌, ◌==◌, if◌then◌else◌, Option, None, Some, bit_and, bit_or}
+use Rattle.std.specs.Prelude.{◌≡◌, ◌≢◌, ℕ, ◌-◌, ◌^◌, Bool, true, not, ◌&&◌, ◌||◌, ◌==◌, if◌then◌else◌, Option, None, Some, bit_and, bit_or}
 use Rattle.field_policies.specs.declared.signal.Gate.{Gate}
 
 -- hardware is active where the data isn't 0, and in a sticky field only where the value is 0
