@@ -5,3 +5,4 @@ pub mod CollectLemmas
 pub mod ChainLemmas
 pub mod Semantics
 pub mod LawProofs
+pub mod RangeLemmas

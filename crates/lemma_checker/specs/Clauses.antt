@@ -1,5 +1,5 @@
 -- Clauses of propositional logic: what an assignment makes true, and what follows.
-use Rattle.std.specs.Prelude.{◌≡◌, ℕ, ◌+◌, ◌-◌, ◌*◌, ◌/◌, ◌%◌, ◌<◌, ◌≤◌, Bool, true, false, not, eqb, cond, List, Some, slice_get, slice_index_or, take}
+use Rattle.std.specs.Prelude.{◌≡◌, ℕ, ◌+◌, ◌-◌, ◌*◌, ◌/◌, ◌%◌, ◌<◌, ◌≤◌, Bool, true, false, not, ◌&&◌, nat_le, nat_lt, eqb, cond, List, Some, slice_get, slice_index_or, take}
 use Rattle.std.specs.List.{list_any}
 use Rattle.lemma_checker.specs.declared.literal.Literal.{Literal}
 
@@ -23,6 +23,10 @@ pub record AreDistinct (c : List Literal) : Type 0 where
 pub record IsOver (vars : ℕ) (c : List Literal) : Type 0 where
   pub low : (l : ℕ) → has l c ≡ true → 2 ≤ l
   pub high : (l : ℕ) → has l c ≡ true → l < 2 * vars + 2
+
+-- the test for one literal
+abbrev pub in_range : ℕ → Literal → Bool
+in_range vars x = nat_le 2 x.0 && nat_lt x.0 (2 * vars + 2)
 
 -- each clause is of the variables 1 to `vars`
 pub record AreOver (vars : ℕ) (clauses : List (List Literal)) : Type 0 where

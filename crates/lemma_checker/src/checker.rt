@@ -104,6 +104,14 @@ impl Lemmas {
         }
     }
 
+    /// The formula alone.
+    pub fn into_formula(self) -> Formula
+        ensures vars { result.vars ≡ self.formula.vars }
+        ensures clauses { result.clauses ≡ self.formula.clauses }
+    {
+        self.formula
+    }
+
     /// The refutation where one of the clauses is empty, else the lemmas as they were.
     pub fn refuted(self) -> Result<Refutation, Lemmas>
         ensures exactly { IsOk result ↔ IsTrue (has_empty (self.formula.clauses.items ++ self.added.items)) }

@@ -10,3 +10,5 @@ pub mod laws;
 pub mod lemmas;
 pub mod literal;
 pub mod resolver;
+#[cfg(test)]
+mod tests;

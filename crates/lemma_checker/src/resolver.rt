@@ -11,7 +11,7 @@ ghost use Rattle.lemma_checker.specs.Chains.{clash, clashes, resolved, numbered,
 ghost use Rattle.lemma_checker.specs.Checker.{Lists, AreBelow, AreAllBelow, with_literal, joined};
 
 use crate::chain::{Chain, ChainFault};
-use crate::clause::Clause;
+use crate::clause::{Clause, has_number};
 use crate::literal::Literal;
 use std::alloc::{AllocError, Global};
 use std::vec::Vec;
@@ -82,13 +82,6 @@ pub fn unmark(marks: &mut [bool], number: usize)
     if number < marks.len() {
         marks[number] = false;
     }
-}
-
-/// Whether the clause has the literal of this number.
-pub fn has_number(clause: &[Literal], number: usize) -> bool
-    ensures { result ≡ has number clause.now }
-{
-    clause.iter().any(|x| x.0 as usize == number)
 }
 
 /// Whether the marked set and the clause can be resolved on the variable.
