@@ -1,7 +1,6 @@
-use Rattle.std.proofs.Common.{◌≡◌, arith, sym, ◌∙◌, ap, true≢false, take, false}
+use Rattle.std.proofs.Common.{sym, ◌∙◌, true≢false}
 use Rattle.std.proofs.lemmas.Option.{slice_get-get_or}
 use Rattle.std.proofs.lemmas.List.{take_more}
-use Rattle.lemma_checker.specs.Clauses.{has, AreDistinct}
 use Rattle.lemma_checker.proofs.CollectLemmas.{distinct_push}
 use Rattle.lemma_checker.proofs.clause.are_distinct.Goals as goal
 
