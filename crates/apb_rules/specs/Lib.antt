@@ -1,0 +1,4 @@
+pub mod Lines
+pub mod Phases
+pub mod Events
+pub mod Drive
