@@ -15,3 +15,6 @@ mod words;
 
 pub use report::Status;
 pub use top::{Ended, Evidence, run_tool};
+
+#[cfg(test)]
+mod tests;

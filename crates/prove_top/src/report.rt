@@ -1,7 +1,7 @@
 //! What a command reports: a status, and a line.
 
 ghost use Rattle.std.specs.Prelude.{◌≡◌, ◌++◌, IfOk};
-ghost use Rattle.prove_top.specs.Report.{status_of, text_of, line_of, refusal_head, refusal_tail, difference_text, refuted_line};
+ghost use Rattle.prove_top.specs.Report.{status_number, status_of, text_of, line_of, refusal_head, refusal_tail, difference_text, refuted_line};
 
 use bit_base::text::Text;
 use std::alloc::{AllocError, Global};
@@ -18,6 +18,23 @@ pub enum Status {
     Usage,
     Fault,
     NoMemory,
+}
+
+impl Status {
+    /// Its number, from 0 to 6.
+    pub fn number(self) -> u8
+        ensures { result ≡ status_number self }
+    {
+        match self {
+            Status::Yes => 0,
+            Status::No => 1,
+            Status::Unknown => 2,
+            Status::Refused => 3,
+            Status::Usage => 4,
+            Status::Fault => 5,
+            Status::NoMemory => 6,
+        }
+    }
 }
 
 /// Why a command is refused: the description, the Verilog or the ports file is too long, a file
