@@ -61,7 +61,7 @@ completes-unless (FaultRead file) expected ended Q is said q = unless-fault ende
 ends-status-of : (report expected : Report) (old new : Option (List ℕ)) (before now : ℕ) (ended : Status)
     → UnlessFault report (report ≡ expected) → Ends report old new before now ended → UnlessFailed ended (ended ≡ status_of expected)
 ends-status-of report expected old new before now ended is (inl done) =
-  completes-unless report expected ended (λ r. ended ≡ status_of r) is done.said done.said
+    completes-unless report expected ended (λ r. ended ≡ status_of r) is done.said done.said
 ends-status-of report expected old new before now ended is (inr (inl fails)) = unless-fault ended (ended ≡ status_of expected) fails.said
 ends-status-of report expected old new before now ended is (inr (inr wants)) = unless-memory ended (ended ≡ status_of expected) wants.said
 
@@ -74,7 +74,7 @@ ends-status (Some files) report words old new before now ended is ends = ends-st
 ends-text-of : (report expected : Report) (old new : Option (List ℕ)) (before now : ℕ) (ended : Status)
     → UnlessFault report (report ≡ expected) → Ends report old new before now ended → UnlessFailed ended (new ≡ after_put old (text_of expected))
 ends-text-of report expected old new before now ended is (inl done) =
-  completes-unless report expected ended (λ r. new ≡ after_put old (text_of r)) is done.said done.written
+    completes-unless report expected ended (λ r. new ≡ after_put old (text_of r)) is done.said done.written
 ends-text-of report expected old new before now ended is (inr (inl fails)) = unless-fault ended (new ≡ after_put old (text_of expected)) fails.said
 ends-text-of report expected old new before now ended is (inr (inr wants)) = unless-memory ended (new ≡ after_put old (text_of expected)) wants.said
 
@@ -128,25 +128,30 @@ unless-tells (FaultRead file) tells P p = tt
 due : (told : Option Files) (words : List (List ℕ)) (failed : Option (List ℕ)) → (report : Report) × MayReport told words failed report
 due told words (Some name) = (FaultRead name, record { failure = refl; answer = λ files is. tt })
 due None words None = (Usage, record { failure = refl; answer = λ files is. cc })
-due (Some files) words None =
-  (report_of files words, record {
+due (Some files) words None = (
+  report_of files words,
+  record {
     failure = tells-report_of files words;
     answer = λ others is.
-      let P : Files → Type 0 = λ told. UnlessFault (report_of files words) (report_of files words ≡ report_of told words) in
-      let same : files ≡ others = cc in
-      subst P same (unless-tells (report_of files words) (tells-report_of files words) (report_of files words ≡ report_of files words) refl) })
+        let P : Files → Type 0 = λ told. UnlessFault (report_of files words) (report_of files words ≡ report_of told words) in
+        let same : files ≡ others = cc in
+        subst P same (unless-tells (report_of files words) (tells-report_of files words) (report_of files words ≡ report_of files words) refl);
+  },
+)
 
 pub reads-wanting : (told : Option Files) (words : List (List ℕ)) (calls_before calls_after : Option (List DepotCall)) (P : List DepotCall → Type 0)
     (old new : Option (List ℕ)) (before now : ℕ) (ended : Status)
     → ReadsOnly (names_asked words) calls_before calls_after P → ended ≡ status.NoMemory → AppendsPart old MEMORY_LINE.now new
     → ReadsOnly (names_asked words) calls_before calls_after (Ran told words old new before now ended)
 reads-wanting told words calls_before calls_after P old new before now ended all said part =
-  let may = due told words (failed_of all.added) in
-  record {
-    added = all.added;
-    told = all.told;
-    reads = all.reads;
-    ends = record {
-      report = may.0;
-      may = may.1;
-      ends = inr (inr (record { said = said; written = (old, put-none old (text_of may.0), part) })) } }
+    let may = due told words (failed_of all.added) in
+    record {
+      added = all.added;
+      told = all.told;
+      reads = all.reads;
+      ends = record {
+        report = may.0;
+        may = may.1;
+        ends = inr (inr (record { said = said; written = (old, put-none old (text_of may.0), part) }));
+      };
+    }

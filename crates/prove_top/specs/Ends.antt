@@ -30,7 +30,7 @@ pub record WantsMemory (report : Report) (old new : Option (List ℕ)) (ended : 
 
 abbrev pub Ends : Report → Option (List ℕ) → Option (List ℕ) → ℕ → ℕ → Status → Type 0
 Ends report old new before now ended =
-  Completes report old new ended ⊎ FailsPut report old new before now ended ⊎ WantsMemory report old new ended
+    Completes report old new ended ⊎ FailsPut report old new before now ended ⊎ WantsMemory report old new ended
 
 -- a report that the command may give: about the read that failed, else the one that the told files give
 pub record MayReport (told : Option Files) (words : List (List ℕ)) (failed : Option (List ℕ)) (report : Report) : Type 0 where

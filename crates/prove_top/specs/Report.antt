@@ -35,6 +35,7 @@ refusal_head refusal.VlogSize = codes "refused 213 "
 refusal_head refusal.PortSize = codes "refused 307 "
 refusal_head refusal.NoFile = codes "refused 701 "
 refusal_head refusal.NotYet = codes "refused 801 "
+
 abbrev pub refusal_tail : Refusal → List ℕ
 refusal_tail refusal.RdlSize = codes ":0:0 RdlSize"
 refusal_tail refusal.VlogSize = codes ":0:0 VlogSize"
@@ -48,6 +49,7 @@ difference_text difference.Wait = codes " wait"
 difference_text difference.Error = codes " error"
 difference_text difference.ReadData = codes " readdata"
 difference_text (difference.Output line) = codes " output c.v"
+
 abbrev pub refuted_line : ℕ → Difference → List ℕ
 refuted_line edge what = codes "refuted edge=" ++ decimal edge ++ difference_text what
 
@@ -58,5 +60,6 @@ line_of (report.Refused why file) = refusal_head why ++ file ++ refusal_tail why
 line_of (report.Refuted edge what) = refuted_line edge what
 line_of report.Simulated = codes "unknown simulated"
 line_of (report.FaultRead file) = codes "fault read " ++ file ++ []
+
 unfoldable pub text_of : Report → List ℕ
 text_of said = line_of said ++ 10 ∷ []

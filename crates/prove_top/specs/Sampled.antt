@@ -21,11 +21,13 @@ choice_of draw = record {
   address = number_of (sliced 3 2 draw);
   payload = number_of (sliced 5 8 draw);
   strobe = 0;
-  prot = 0 }
+  prot = 0;
+}
 
 -- the choice of an edge, and those of the first edges, so many
 unfoldable pub choice_at : List Bool → ℕ → Choice
 choice_at bits edge = choice_of (sliced (REGISTER_BITS + CHOICE_BITS * edge) CHOICE_BITS bits)
+
 unfoldable pub choices_to : List Bool → ℕ → List Choice
 choices_to bits zero = []
 choices_to bits (suc edge) = choices_to bits edge ++ choice_at bits edge ∷ []
@@ -33,8 +35,10 @@ choices_to bits (suc edge) = choices_to bits edge ++ choice_at bits edge ∷ []
 -- all bits that are drawn, the register's start, and the wires of the run
 unfoldable pub sample_bits : ℕ → List Bool
 sample_bits seed = drawn_bits seed (REGISTER_BITS + CHOICE_BITS * EDGES)
+
 unfoldable pub sampled_register : ℕ → ℕ
 sampled_register seed = number_of (take REGISTER_BITS (sample_bits seed))
+
 unfoldable pub sampled_wires : Block → ℕ → List BusWires
 sampled_wires block seed = wires_from block (start_of block (sampled_register seed)) (choices_to (sample_bits seed) EDGES)
 

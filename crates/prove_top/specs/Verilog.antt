@@ -12,10 +12,10 @@ use Rattle.prove_top.specs.declared.verilog.TheConstants.{VERILOG_HEAD, VERILOG_
 -- the value of a hexadecimal digit, in either case
 abbrev pub digit_of : ℕ → Option ℕ
 digit_of byte =
-  if nat_le 0x30 byte && nat_le byte 0x39 then Some (byte - 0x30)
-  else if nat_le 0x41 byte && nat_le byte 0x46 then Some (byte - 0x41 + 10)
-  else if nat_le 0x61 byte && nat_le byte 0x66 then Some (byte - 0x61 + 10)
-  else None
+    if nat_le 0x30 byte && nat_le byte 0x39 then Some (byte - 0x30)
+    else if nat_le 0x41 byte && nat_le byte 0x46 then Some (byte - 0x41 + 10)
+    else if nat_le 0x61 byte && nat_le byte 0x66 then Some (byte - 0x61 + 10)
+    else None
 
 -- two digits, the high one first
 abbrev pub constant_of : Option ℕ → Option ℕ → Option Source
@@ -27,20 +27,24 @@ constant_of None low = None
 abbrev pub literal_of : List ℕ → Option Source
 literal_of (high ∷ low ∷ []) = constant_of (digit_of high) (digit_of low)
 literal_of _ = None
+
 unfoldable pub source_of : List ℕ → Option Source
 source_of bytes =
-  if bytes_eq bytes (codes "v") then Some Register
-  else if bytes_eq bytes (codes "pwdata") then Some WriteData
-  else option_and_then literal_of (middle_of (codes "8'h") [] bytes)
+    if bytes_eq bytes (codes "v") then Some Register
+    else if bytes_eq bytes (codes "pwdata") then Some WriteData
+    else option_and_then literal_of (middle_of (codes "8'h") [] bytes)
 
 -- the two expressions: the first ends at the first semicolon
 abbrev pub drivers_from : Option Source → Option Source → Option Drivers
 drivers_from (Some read_data) (Some next) = Some (record { read_data = read_data; next = next })
 drivers_from (Some read_data) None = None
 drivers_from None next = None
+
 abbrev pub second_in : List ℕ → Option (List ℕ)
 second_in inner = option_and_then (middle_of VERILOG_MIDDLE.now []) (middle_of (before_mark 0x3B inner) [] inner)
+
 abbrev pub drivers_in : List ℕ → Option Drivers
 drivers_in inner = drivers_from (source_of (before_mark 0x3B inner)) (option_and_then source_of (second_in inner))
+
 unfoldable pub drivers_of : List ℕ → Option Drivers
 drivers_of bytes = option_and_then drivers_in (middle_of VERILOG_HEAD.now VERILOG_TAIL.now bytes)

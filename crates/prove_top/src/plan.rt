@@ -22,19 +22,34 @@ use trace_replay::joint::first_difference;
 
 /// How many bytes a description, a ports file and a Verilog file may have.
 pub(crate) const DESCRIPTION_LIMIT: u32 = 1_048_576;
+
 pub(crate) const PORTS_LIMIT: u32 = 65_536;
+
 pub(crate) const VERILOG_LIMIT: u32 = 1_048_576;
 
 /// The ports file of the first form.
-pub(crate) const PORTS: &[u8] = b"clock clk\nreset rst_n low 1\npsel psel\npenable penable\npwrite pwrite\npaddr paddr\npwdata pwdata\nprdata prdata\npready pready\npslverr pslverr\nwait 0\nunmapped zero\n\nout c.v v\n";
+pub(crate) const PORTS: &[u8] =
+    b"clock clk\nreset rst_n low 1\npsel psel\npenable penable\npwrite pwrite\npaddr paddr\npwdata pwdata\nprdata prdata\npready pready\npslverr pslverr\nwait 0\nunmapped zero\n\nout c.v v\n";
 
 /// The files of a command.
 fn wanted_of(alloc: Global, command: &Command) -> Result<Vec<Wanted>, AllocError>
     ensures { IfOk result (λ wanted. wanted.items ≡ wanted_of command.now) }
 {
-    let description = Wanted { name: command.rdl.copy(alloc)?, limit: DESCRIPTION_LIMIT, kind: Kind::Description };
-    let ports = Wanted { name: command.ports.copy(alloc)?, limit: PORTS_LIMIT, kind: Kind::Ports };
-    let verilog = Wanted { name: command.verilog.copy(alloc)?, limit: VERILOG_LIMIT, kind: Kind::Verilog };
+    let description = Wanted {
+        name: command.rdl.copy(alloc)?,
+        limit: DESCRIPTION_LIMIT,
+        kind: Kind::Description,
+    };
+    let ports = Wanted {
+        name: command.ports.copy(alloc)?,
+        limit: PORTS_LIMIT,
+        kind: Kind::Ports,
+    };
+    let verilog = Wanted {
+        name: command.verilog.copy(alloc)?,
+        limit: VERILOG_LIMIT,
+        kind: Kind::Verilog,
+    };
     let mut wanted = Vec::new(alloc);
     wanted.push(description)?;
     wanted.push(ports)?;
@@ -67,7 +82,12 @@ fn name_of(command: &Command, kind: Kind) -> &Text
 
 /// The block of three texts, or the first of them, in the order description, Verilog, ports, that
 /// isn't of the first form.
-fn block_of(alloc: Global, rdl: &[u8], ports: &[u8], verilog: &[u8]) -> Result<Result<Block, Kind>, AllocError>
+fn block_of(
+    alloc: Global,
+    rdl: &[u8],
+    ports: &[u8],
+    verilog: &[u8],
+) -> Result<Result<Block, Kind>, AllocError>
     ensures { IfOk result (λ block. block ≡ block_of rdl.now ports.now verilog.now) }
 {
     let Some(reset) = reset_of(alloc, rdl)? else {
@@ -79,7 +99,11 @@ fn block_of(alloc: Global, rdl: &[u8], ports: &[u8], verilog: &[u8]) -> Result<R
     if ports != PORTS {
         return Ok(Err(Kind::Ports));
     }
-    Ok(Ok(Block { reset, read_data: drivers.read_data, next: drivers.next }))
+    Ok(Ok(Block {
+        reset,
+        read_data: drivers.read_data,
+        next: drivers.next,
+    }))
 }
 
 /// The report of a block's sampled run.
@@ -97,7 +121,13 @@ fn run_report(alloc: Global, block: Block, seed: u64) -> Result<Report, AllocErr
 
 /// The report of a command on its three texts.
 #[tactic(auto, unfolding(crate::specs::Answer::answer_to))]
-fn answer_to(alloc: Global, command: &Command, rdl: &[u8], ports: &[u8], verilog: &[u8]) -> Result<Report, AllocError>
+fn answer_to(
+    alloc: Global,
+    command: &Command,
+    rdl: &[u8],
+    ports: &[u8],
+    verilog: &[u8],
+) -> Result<Report, AllocError>
     ensures report { IfOk result (λ report. report ≡ answer_to command.now rdl.now ports.now verilog.now) }
     ensures kind { IfOk result IsAnswer }
 {
@@ -126,7 +156,11 @@ fn prove<D: Depot>(alloc: Global, command: &Command, depot: &mut D) -> Result<Re
 }
 
 /// The report of these words.
-pub(crate) fn plan<D: Depot>(alloc: Global, words: &[Text], depot: &mut D) -> Result<Report, AllocError>
+pub(crate) fn plan<D: Depot>(
+    alloc: Global,
+    words: &[Text],
+    depot: &mut D,
+) -> Result<Report, AllocError>
     ensures files { D.files depot.new ≡ D.files depot.old }
     ensures answer { IfSome (D.files depot.old) (λ files. IfOk result (λ report. UnlessFault report (report ≡ report_of files words.now))) }
     ensures usage { IfOk result (λ report. IsUsage report ↔ (words.now ≡ [])) }

@@ -87,11 +87,23 @@ impl Report {
         ensures { IfOk result (λ line. line.items ≡ line_of self.now) }
     {
         match self {
-            Report::Usage => b"usage: rdlprove prove, check, replay, map, sample or equal".as_slice().to_vec(alloc),
-            Report::Refused(refusal, file) => joined(alloc, refusal_head(*refusal), file.as_bytes(), refusal_tail(*refusal)),
+            Report::Usage => b"usage: rdlprove prove, check, replay, map, sample or equal"
+                .as_slice()
+                .to_vec(alloc),
+            Report::Refused(refusal, file) => joined(
+                alloc,
+                refusal_head(*refusal),
+                file.as_bytes(),
+                refusal_tail(*refusal),
+            ),
             Report::Refuted(edge, difference) => refuted_line(alloc, *edge, *difference),
             Report::Simulated => b"unknown simulated".as_slice().to_vec(alloc),
-            Report::FaultRead(file) => joined(alloc, b"fault read ".as_slice(), file.as_bytes(), b"".as_slice()),
+            Report::FaultRead(file) => joined(
+                alloc,
+                b"fault read ".as_slice(),
+                file.as_bytes(),
+                b"".as_slice(),
+            ),
         }
     }
 }
@@ -148,7 +160,12 @@ fn refuted_line(alloc: Global, edge: usize, difference: Difference) -> Result<Ve
     ensures { IfOk result (λ line. line.items ≡ refuted_line edge difference) }
 {
     let number = edge.to_string(alloc)?;
-    joined(alloc, b"refuted edge=".as_slice(), number.as_bytes(), difference_text(difference))
+    joined(
+        alloc,
+        b"refuted edge=".as_slice(),
+        number.as_bytes(),
+        difference_text(difference),
+    )
 }
 
 /// The line of want of memory.

@@ -17,6 +17,7 @@ pub(crate) const EDGES: usize = 64;
 
 /// How many bits are drawn for the register, and for the choice of an edge.
 const REGISTER_BITS: usize = 8;
+
 const CHOICE_BITS: usize = 13;
 
 /// A run: what the block's register starts with, and the wires of each edge.

@@ -8,9 +8,15 @@ use tool_edge::memory_depot::MemoryDepot;
 use tool_edge::memory_sink::MemorySink;
 
 const RDL: &[u8] = b"addrmap a { reg { regwidth=8; field { sw=rw; hw=r; } v[8]=0; } c; };\n";
-const PORTS: &[u8] = b"clock clk\nreset rst_n low 1\npsel psel\npenable penable\npwrite pwrite\npaddr paddr\npwdata pwdata\nprdata prdata\npready pready\npslverr pslverr\nwait 0\nunmapped zero\n\nout c.v v\n";
-const HEAD: &[u8] = b"module f(input clk, input rst_n, input psel, input penable, input pwrite,\n  input [1:0] paddr, input [7:0] pwdata, output [7:0] prdata,\n  output pready, output pslverr, output reg [7:0] v);\n  assign pready = 1'b1;\n  assign pslverr = 1'b0;\n  assign prdata = ";
+
+const PORTS: &[u8] =
+    b"clock clk\nreset rst_n low 1\npsel psel\npenable penable\npwrite pwrite\npaddr paddr\npwdata pwdata\nprdata prdata\npready pready\npslverr pslverr\nwait 0\nunmapped zero\n\nout c.v v\n";
+
+const HEAD: &[u8] =
+    b"module f(input clk, input rst_n, input psel, input penable, input pwrite,\n  input [1:0] paddr, input [7:0] pwdata, output [7:0] prdata,\n  output pready, output pslverr, output reg [7:0] v);\n  assign pready = 1'b1;\n  assign pslverr = 1'b0;\n  assign prdata = ";
+
 const MIDDLE: &[u8] = b";\n  always @(posedge clk) v <= ";
+
 const TAIL: &[u8] = b";\nendmodule\n";
 
 /// The Verilog with these two expressions.
@@ -28,7 +34,10 @@ fn depot(alloc: Global, read_data: &[u8], next: &[u8]) -> Result<MemoryDepot, Al
     let mut depot = MemoryDepot::new(alloc);
     depot.hold(text_of(alloc, b"a.rdl".as_slice())?, RDL.to_vec(alloc)?)?;
     depot.hold(text_of(alloc, b"a.ports".as_slice())?, PORTS.to_vec(alloc)?)?;
-    depot.hold(text_of(alloc, b"f.v".as_slice())?, verilog(alloc, read_data, next)?)?;
+    depot.hold(
+        text_of(alloc, b"f.v".as_slice())?,
+        verilog(alloc, read_data, next)?,
+    )?;
     Ok(depot)
 }
 
@@ -90,7 +99,14 @@ fn each_seed_shows_its_first_difference(rt: HostRuntime) -> Result<(), Fail> {
     ] {
         let mut depot = depot(alloc, b"pwdata".as_slice(), b"8'h00".as_slice())?;
         let words = format!(in alloc; "prove a.rdl a.ports f.v --seed {seed}")?;
-        answers(&rt, alloc, words.as_bytes(), &mut depot, Status::No, line.as_bytes())?;
+        answers(
+            &rt,
+            alloc,
+            words.as_bytes(),
+            &mut depot,
+            Status::No,
+            line.as_bytes(),
+        )?;
     }
     Ok(())
 }
@@ -100,22 +116,68 @@ fn each_seed_shows_its_first_difference(rt: HostRuntime) -> Result<(), Fail> {
 fn each_row_has_its_answer(rt: HostRuntime) -> Result<(), Fail> {
     let alloc = rt.alloc();
     for (line, status, text) in [
-        ("", Status::Usage, "usage: rdlprove prove, check, replay, map, sample or equal\n"),
+        (
+            "",
+            Status::Usage,
+            "usage: rdlprove prove, check, replay, map, sample or equal\n",
+        ),
         ("equal", Status::Refused, "refused 801 words:0:0 NotYet\n"),
-        ("prove a.rdl a.ports f.v --seed 01", Status::Refused, "refused 801 words:0:0 NotYet\n"),
-        ("prove a.rdl a.ports f.v --seed 18446744073709551616", Status::Refused, "refused 801 words:0:0 NotYet\n"),
-        ("prove a.rdl a.ports --v", Status::Refused, "refused 801 words:0:0 NotYet\n"),
-        ("prove a.rdl a.ports g.v", Status::Refused, "refused 701 g.v:0:0 NoFile\n"),
-        ("prove a.rdl a.rdl f.v", Status::Refused, "refused 801 a.rdl:0:0 NotYet\n"),
-        ("prove a.rdl a.ports a.ports", Status::Refused, "refused 801 a.ports:0:0 NotYet\n"),
-        ("prove a.rdl a.ports f.v", Status::No, "refuted edge=6 output c.v\n"),
+        (
+            "prove a.rdl a.ports f.v --seed 01",
+            Status::Refused,
+            "refused 801 words:0:0 NotYet\n",
+        ),
+        (
+            "prove a.rdl a.ports f.v --seed 18446744073709551616",
+            Status::Refused,
+            "refused 801 words:0:0 NotYet\n",
+        ),
+        (
+            "prove a.rdl a.ports --v",
+            Status::Refused,
+            "refused 801 words:0:0 NotYet\n",
+        ),
+        (
+            "prove a.rdl a.ports g.v",
+            Status::Refused,
+            "refused 701 g.v:0:0 NoFile\n",
+        ),
+        (
+            "prove a.rdl a.rdl f.v",
+            Status::Refused,
+            "refused 801 a.rdl:0:0 NotYet\n",
+        ),
+        (
+            "prove a.rdl a.ports a.ports",
+            Status::Refused,
+            "refused 801 a.ports:0:0 NotYet\n",
+        ),
+        (
+            "prove a.rdl a.ports f.v",
+            Status::No,
+            "refuted edge=6 output c.v\n",
+        ),
     ] {
         let mut depot = depot(alloc, b"pwdata".as_slice(), b"8'h00".as_slice())?;
-        answers(&rt, alloc, line.as_bytes(), &mut depot, status, text.as_bytes())?;
+        answers(
+            &rt,
+            alloc,
+            line.as_bytes(),
+            &mut depot,
+            status,
+            text.as_bytes(),
+        )?;
     }
     let mut failing = depot(alloc, b"v".as_slice(), b"v".as_slice())?;
     failing.fail_at(2)?;
-    answers(&rt, alloc, b"prove a.rdl a.ports f.v".as_slice(), &mut failing, Status::Fault, b"fault read a.ports\n".as_slice())?;
+    answers(
+        &rt,
+        alloc,
+        b"prove a.rdl a.ports f.v".as_slice(),
+        &mut failing,
+        Status::Fault,
+        b"fault read a.ports\n".as_slice(),
+    )?;
     let mut depot = depot(alloc, b"v".as_slice(), b"v".as_slice())?;
     let mut out = MemorySink::new(alloc);
     out.fail_at(1)?;

@@ -54,7 +54,12 @@ fn want_memory<S: Sink>(alloc: Global, out: &mut S) -> Status
 }
 
 /// Reads the words, fetches the files that they name from the depot, decides, and puts the report.
-pub fn run_tool<D: Depot, S: Sink>(alloc: Global, words: &[Text], depot: &mut D, out: &mut S) -> Ended
+pub fn run_tool<D: Depot, S: Sink>(
+    alloc: Global,
+    words: &[Text],
+    depot: &mut D,
+    out: &mut S,
+) -> Ended
     // Where the depot tells its files, status and text are those that the files give.
     ensures status { IfSome (D.files depot.old) (λ files. UnlessFailed result.status (result.status ≡ status_of (report_of files words.now))) }
     ensures text { IfSome (D.files depot.old) (λ files. UnlessFailed result.status (S.written out.new ≡ after_put (S.written out.old) (text_of (report_of files words.now)))) }
@@ -76,5 +81,8 @@ pub fn run_tool<D: Depot, S: Sink>(alloc: Global, words: &[Text], depot: &mut D,
         Ok(report) => put_report(alloc, &report, out),
         Err(_) => want_memory(alloc, out),
     };
-    Ended { status, evidence: Evidence::Nothing }
+    Ended {
+        status,
+        evidence: Evidence::Nothing,
+    }
 }

@@ -8,8 +8,11 @@ use crate::texts::{front, middle};
 use trace_replay::source::Source;
 
 /// The texts before, between and after the two expressions.
-pub(crate) const VERILOG_HEAD: &[u8] = b"module f(input clk, input rst_n, input psel, input penable, input pwrite,\n  input [1:0] paddr, input [7:0] pwdata, output [7:0] prdata,\n  output pready, output pslverr, output reg [7:0] v);\n  assign pready = 1'b1;\n  assign pslverr = 1'b0;\n  assign prdata = ";
+pub(crate) const VERILOG_HEAD: &[u8] =
+    b"module f(input clk, input rst_n, input psel, input penable, input pwrite,\n  input [1:0] paddr, input [7:0] pwdata, output [7:0] prdata,\n  output pready, output pslverr, output reg [7:0] v);\n  assign pready = 1'b1;\n  assign pslverr = 1'b0;\n  assign prdata = ";
+
 pub(crate) const VERILOG_MIDDLE: &[u8] = b";\n  always @(posedge clk) v <= ";
+
 pub(crate) const VERILOG_TAIL: &[u8] = b";\nendmodule\n";
 
 /// What drives PRDATA, and what the register takes at each rising edge.

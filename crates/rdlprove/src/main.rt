@@ -4,11 +4,11 @@
 use bit_base::text::{Text, text_of};
 use prove_top::{Status, run_tool};
 use std::alloc::Global;
+use std::env;
 use std::io::{self, ErrorKind};
 use std::process::ExitCode;
 use std::rt::Env;
 use std::vec::Vec;
-use std::env;
 use tool_edge::host_depot::HostDepot;
 use tool_edge::host_sink::HostSink;
 

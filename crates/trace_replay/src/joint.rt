@@ -68,15 +68,31 @@ impl JointState {
         ensures { result ≡ wires_of self choice }
     {
         let start = choice.start && !self.in_reset();
-        let style = BusStyle { strobe: false, prot: false };
-        drive(self.phase, Choice { start, strobe: 0, prot: 0, ..choice }, 1, style)
+        let style = BusStyle {
+            strobe: false,
+            prot: false,
+        };
+        drive(
+            self.phase,
+            Choice {
+                start,
+                strobe: 0,
+                prot: 0,
+                ..choice
+            },
+            1,
+            style,
+        )
     }
 
     /// The pins of the block under these wires.
     fn pins(self, wires: BusWires) -> Pins
         ensures { result ≡ pins_of self wires }
     {
-        Pins { reset_n: !self.in_reset(), bus: wires }
+        Pins {
+            reset_n: !self.in_reset(),
+            bus: wires,
+        }
     }
 
     /// What the block shows under these wires.
@@ -121,7 +137,13 @@ impl JointState {
         let waited = waited(self, wires, shown);
         let edge = self.edge.saturating_add(1).min(RESET_EDGES);
         if self.in_reset() {
-            return JointState { edge, register, machine: self.machine, phase: Phase::Free, waited };
+            return JointState {
+                edge,
+                register,
+                machine: self.machine,
+                phase: Phase::Free,
+                waited,
+            };
         }
         JointState {
             edge,
@@ -173,7 +195,12 @@ fn wrong_data(event: BusEvent, answer: Answer, shown: Outputs) -> bool
 }
 
 /// The wires of the run under these choices, from this state on.
-pub fn run_wires(alloc: Global, block: Block, start: JointState, choices: &[Choice]) -> Result<Vec<BusWires>, AllocError>
+pub fn run_wires(
+    alloc: Global,
+    block: Block,
+    start: JointState,
+    choices: &[Choice],
+) -> Result<Vec<BusWires>, AllocError>
     ensures { IfOk result (λ wires. wires.items ≡ wires_from block start choices.now) }
 {
     let mut state = start;
