@@ -1,0 +1,6 @@
+mod Pieces
+mod Plain
+mod GatherLemmas
+mod DrawLemmas
+mod PlanLemmas
+mod EndLemmas

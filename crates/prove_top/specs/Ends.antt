@@ -1,0 +1,54 @@
+-- How a command ends: its report put, a put that failed, or want of memory.
+use Rattle.std.specs.Prelude.{◌≡◌, ℕ, Option, Some, List, ◌⊎◌, ⊤}
+use Rattle.tool_edge.specs.Causes.{Rose}
+use Rattle.tool_edge.specs.Files.{Files}
+use Rattle.tool_edge.specs.Written.{after_put, AppendsPart}
+use Rattle.tool_edge.specs.declared.depot.DepotCall.{DepotCall}
+use Rattle.prove_top.specs.declared.report.Report.{Report}
+use Rattle.prove_top.specs.declared.report.Status.{Status}
+use Rattle.prove_top.specs.declared.report.Status.TheVariants as status
+use Rattle.prove_top.specs.declared.report.TheConstants.{MEMORY_LINE}
+use Rattle.prove_top.specs.Report.{status_of, text_of}
+use Rattle.prove_top.specs.Answer.{report_of, UnlessFault, TellsFailed}
+use Rattle.prove_top.specs.Reads.{failed_of}
+
+-- the report is put
+pub record Completes (report : Report) (old new : Option (List ℕ)) (ended : Status) : Type 0 where
+  pub said : ended ≡ status_of report
+  pub written : new ≡ after_put old (text_of report)
+
+-- a put of it failed, with its cause: a part of it is put
+pub record FailsPut (report : Report) (old new : Option (List ℕ)) (before now : ℕ) (ended : Status) : Type 0 where
+  pub said : ended ≡ status.Fault
+  pub rose : Rose before now
+  pub written : AppendsPart old (text_of report) new
+
+-- memory is wanted: a part of it is put, then a part of the line that says so
+pub record WantsMemory (report : Report) (old new : Option (List ℕ)) (ended : Status) : Type 0 where
+  pub said : ended ≡ status.NoMemory
+  pub written : (middle : Option (List ℕ)) × AppendsPart old (text_of report) middle × AppendsPart middle MEMORY_LINE.now new
+
+abbrev pub Ends : Report → Option (List ℕ) → Option (List ℕ) → ℕ → ℕ → Status → Type 0
+Ends report old new before now ended =
+    Completes report old new ended ⊎ FailsPut report old new before now ended ⊎ WantsMemory report old new ended
+
+-- a report that the command may give: about the read that failed, else the one that the told files give
+pub record MayReport (told : Option Files) (words : List (List ℕ)) (failed : Option (List ℕ)) (report : Report) : Type 0 where
+  pub failure : TellsFailed report failed
+  pub answer : (files : Files) → told ≡ Some files → UnlessFault report (report ≡ report_of files words)
+
+-- after these calls the command ends with such a report
+pub record Ran (told : Option Files) (words : List (List ℕ)) (old new : Option (List ℕ)) (before now : ℕ) (ended : Status) (added : List DepotCall) : Type 0 where
+  pub report : Report
+  pub may : MayReport told words (failed_of added) report
+  pub ends : Ends report old new before now ended
+
+-- a fact where neither the outside failed nor memory was wanted
+abbrev pub UnlessFailed : Status → Type 0 → Type 0
+UnlessFailed status.Yes P = P
+UnlessFailed status.No P = P
+UnlessFailed status.Unknown P = P
+UnlessFailed status.Refused P = P
+UnlessFailed status.Usage P = P
+UnlessFailed status.Fault P = ⊤
+UnlessFailed status.NoMemory P = ⊤

@@ -1,0 +1,12 @@
+pub mod Numbers
+pub mod Texts
+pub mod Gather
+pub mod Reads
+pub mod Words
+pub mod Draws
+pub mod Sampled
+pub mod Description
+pub mod Verilog
+pub mod Report
+pub mod Answer
+pub mod Ends

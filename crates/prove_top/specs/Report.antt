@@ -1,0 +1,65 @@
+-- What a command reports: a status and a line (this project's own).
+use Rattle.std.specs.Prelude.{ℕ, List, [], ◌∷◌, ◌++◌, codes}
+use Rattle.std.specs.Fmt.{decimal}
+use Rattle.trace_replay.specs.declared.joint.Difference.{Difference}
+use Rattle.trace_replay.specs.declared.joint.Difference.TheVariants as difference
+use Rattle.prove_top.specs.declared.report.Refusal.{Refusal}
+use Rattle.prove_top.specs.declared.report.Refusal.TheVariants as refusal
+use Rattle.prove_top.specs.declared.report.Report.{Report}
+use Rattle.prove_top.specs.declared.report.Report.TheVariants as report
+use Rattle.prove_top.specs.declared.report.Status.{Status}
+use Rattle.prove_top.specs.declared.report.Status.TheVariants as status
+
+-- the number of a status, which is the program's
+abbrev pub status_number : Status → ℕ
+status_number status.Yes = 0
+status_number status.No = 1
+status_number status.Unknown = 2
+status_number status.Refused = 3
+status_number status.Usage = 4
+status_number status.Fault = 5
+status_number status.NoMemory = 6
+
+-- the status of a report
+abbrev pub status_of : Report → Status
+status_of report.Usage = status.Usage
+status_of (report.Refused why file) = status.Refused
+status_of (report.Refuted edge what) = status.No
+status_of report.Simulated = status.Unknown
+status_of (report.FaultRead file) = status.Fault
+
+-- a refusal of a file: its code, the file at 0:0, and its name
+abbrev pub refusal_head : Refusal → List ℕ
+refusal_head refusal.RdlSize = codes "refused 108 "
+refusal_head refusal.VlogSize = codes "refused 213 "
+refusal_head refusal.PortSize = codes "refused 307 "
+refusal_head refusal.NoFile = codes "refused 701 "
+refusal_head refusal.NotYet = codes "refused 801 "
+
+abbrev pub refusal_tail : Refusal → List ℕ
+refusal_tail refusal.RdlSize = codes ":0:0 RdlSize"
+refusal_tail refusal.VlogSize = codes ":0:0 VlogSize"
+refusal_tail refusal.PortSize = codes ":0:0 PortSize"
+refusal_tail refusal.NoFile = codes ":0:0 NoFile"
+refusal_tail refusal.NotYet = codes ":0:0 NotYet"
+
+-- a difference; the one `out` line has the key c.v
+abbrev pub difference_text : Difference → List ℕ
+difference_text difference.Wait = codes " wait"
+difference_text difference.Error = codes " error"
+difference_text difference.ReadData = codes " readdata"
+difference_text (difference.Output line) = codes " output c.v"
+
+abbrev pub refuted_line : ℕ → Difference → List ℕ
+refuted_line edge what = codes "refuted edge=" ++ decimal edge ++ difference_text what
+
+-- the line of a report, and its text
+abbrev pub line_of : Report → List ℕ
+line_of report.Usage = codes "usage: rdlprove prove, check, replay, map, sample or equal"
+line_of (report.Refused why file) = refusal_head why ++ file ++ refusal_tail why
+line_of (report.Refuted edge what) = refuted_line edge what
+line_of report.Simulated = codes "unknown simulated"
+line_of (report.FaultRead file) = codes "fault read " ++ file ++ []
+
+unfoldable pub text_of : Report → List ℕ
+text_of said = line_of said ++ 10 ∷ []

@@ -1,0 +1,20 @@
+//! The top call: it reads the words, fetches the files, decides, and puts the report.
+#![tactic(auto)]
+
+mod description;
+mod draws;
+mod gather;
+mod numbers;
+mod plan;
+mod report;
+mod sampled;
+mod texts;
+mod top;
+mod verilog;
+mod words;
+
+pub use report::Status;
+pub use top::{Ended, Evidence, run_tool};
+
+#[cfg(test)]
+mod tests;

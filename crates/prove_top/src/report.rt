@@ -1,0 +1,172 @@
+//! What a command reports: a status, and a line.
+
+ghost use Rattle.std.specs.Prelude.{◌≡◌, ◌++◌, IfOk};
+ghost use Rattle.prove_top.specs.Report.{status_number, status_of, text_of, line_of, refusal_head, refusal_tail, difference_text, refuted_line};
+
+use bit_base::text::Text;
+use std::alloc::{AllocError, Global};
+use std::vec::Vec;
+use trace_replay::joint::Difference;
+
+/// How a command ends; the number of a program's exit status is its place, from 0.
+#[derive(Clone, Copy, Debug, PartialEq, Eq)]
+pub enum Status {
+    Yes,
+    No,
+    Unknown,
+    Refused,
+    Usage,
+    Fault,
+    NoMemory,
+}
+
+impl Status {
+    /// Its number, from 0 to 6.
+    pub fn number(self) -> u8
+        ensures { result ≡ status_number self }
+    {
+        match self {
+            Status::Yes => 0,
+            Status::No => 1,
+            Status::Unknown => 2,
+            Status::Refused => 3,
+            Status::Usage => 4,
+            Status::Fault => 5,
+            Status::NoMemory => 6,
+        }
+    }
+}
+
+/// Why a command is refused: the description, the Verilog or the ports file is too long, a file
+/// isn't there, or a form isn't read yet.
+#[derive(Clone, Copy)]
+pub(crate) enum Refusal {
+    RdlSize,
+    VlogSize,
+    PortSize,
+    NoFile,
+    NotYet,
+}
+
+/// What a command reports.
+#[derive(Drop)]
+pub(crate) enum Report {
+    Usage,
+    Refused(Refusal, Text),
+    Refuted(usize, Difference),
+    Simulated,
+    FaultRead(Text),
+}
+
+impl Report {
+    /// The status that it is reported under.
+    pub fn status(&self) -> Status
+        ensures { result ≡ status_of self.now }
+    {
+        match self {
+            Report::Usage => Status::Usage,
+            Report::Refused(_, _) => Status::Refused,
+            Report::Refuted(_, _) => Status::No,
+            Report::Simulated => Status::Unknown,
+            Report::FaultRead(_) => Status::Fault,
+        }
+    }
+
+    /// Its text: its line and a line feed.
+    #[tactic(auto, unfolding(crate::specs::Report::text_of))]
+    pub fn text(&self, alloc: Global) -> Result<Vec<u8>, AllocError>
+        ensures { IfOk result (λ text. text.items ≡ text_of self.now) }
+    {
+        let mut text = self.line(alloc)?;
+        text.push(b'\n')?;
+        Ok(text)
+    }
+
+    /// Its line.
+    fn line(&self, alloc: Global) -> Result<Vec<u8>, AllocError>
+        ensures { IfOk result (λ line. line.items ≡ line_of self.now) }
+    {
+        match self {
+            Report::Usage => b"usage: rdlprove prove, check, replay, map, sample or equal"
+                .as_slice()
+                .to_vec(alloc),
+            Report::Refused(refusal, file) => joined(
+                alloc,
+                refusal_head(*refusal),
+                file.as_bytes(),
+                refusal_tail(*refusal),
+            ),
+            Report::Refuted(edge, difference) => refuted_line(alloc, *edge, *difference),
+            Report::Simulated => b"unknown simulated".as_slice().to_vec(alloc),
+            Report::FaultRead(file) => joined(
+                alloc,
+                b"fault read ".as_slice(),
+                file.as_bytes(),
+                b"".as_slice(),
+            ),
+        }
+    }
+}
+
+/// Three texts, one after the other.
+fn joined(alloc: Global, first: &[u8], second: &[u8], third: &[u8]) -> Result<Vec<u8>, AllocError>
+    ensures { IfOk result (λ text. text.items ≡ first.now ++ second.now ++ third.now) }
+{
+    let mut text = first.to_vec(alloc)?;
+    text.extend_from_slice(second)?;
+    text.extend_from_slice(third)?;
+    Ok(text)
+}
+
+/// The line of a refusal before and after the file's name.
+fn refusal_head(refusal: Refusal) -> &'static [u8]
+    ensures { result.now ≡ refusal_head refusal }
+{
+    match refusal {
+        Refusal::RdlSize => b"refused 108 ".as_slice(),
+        Refusal::VlogSize => b"refused 213 ".as_slice(),
+        Refusal::PortSize => b"refused 307 ".as_slice(),
+        Refusal::NoFile => b"refused 701 ".as_slice(),
+        Refusal::NotYet => b"refused 801 ".as_slice(),
+    }
+}
+
+fn refusal_tail(refusal: Refusal) -> &'static [u8]
+    ensures { result.now ≡ refusal_tail refusal }
+{
+    match refusal {
+        Refusal::RdlSize => b":0:0 RdlSize".as_slice(),
+        Refusal::VlogSize => b":0:0 VlogSize".as_slice(),
+        Refusal::PortSize => b":0:0 PortSize".as_slice(),
+        Refusal::NoFile => b":0:0 NoFile".as_slice(),
+        Refusal::NotYet => b":0:0 NotYet".as_slice(),
+    }
+}
+
+/// The name of a difference.
+fn difference_text(difference: Difference) -> &'static [u8]
+    ensures { result.now ≡ difference_text difference }
+{
+    match difference {
+        Difference::Wait => b" wait".as_slice(),
+        Difference::Error => b" error".as_slice(),
+        Difference::ReadData => b" readdata".as_slice(),
+        Difference::Output(_) => b" output c.v".as_slice(),
+    }
+}
+
+/// The line of a difference.
+fn refuted_line(alloc: Global, edge: usize, difference: Difference) -> Result<Vec<u8>, AllocError>
+    ensures { IfOk result (λ line. line.items ≡ refuted_line edge difference) }
+{
+    let number = edge.to_string(alloc)?;
+    joined(
+        alloc,
+        b"refuted edge=".as_slice(),
+        number.as_bytes(),
+        difference_text(difference),
+    )
+}
+
+/// The line of want of memory.
+pub(crate) const MEMORY_LINE: &[u8] = b"no memory\n";

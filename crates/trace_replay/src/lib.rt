@@ -1,0 +1,8 @@
+//! The joint run of a block and its register machine, edge by edge, and the first edge at which
+//! they differ.
+#![tactic(auto)]
+
+pub mod block;
+pub mod joint;
+pub mod machine;
+pub mod source;
