@@ -22,7 +22,8 @@ pub struct HostSink<W: Write + Drop> {
 impl<W: Write + Drop> HostSink<W> {
     /// A sink over this writer, without a fault.
     pub fn new(out: W) -> HostSink<W>
-        ensures { sink_faults result ≡ 0 }
+        ensures faults { sink_faults result ≡ 0 }
+        ensures writer { writer_of result ≡ out }
     {
         HostSink { out, faults: 0 }
     }
