@@ -5,3 +5,7 @@ use Rattle.tool_edge.specs.declared.host_sink.HostSink.{HostSink}
 -- how many puts have ended in an Err, up to the last value of a u64
 abbrev pub sink_faults : {W : Type 0} → HostSink W → ℕ
 sink_faults sink = sink.faults
+
+-- the writer that the puts go to
+abbrev pub writer_of : {W : Type 0} → HostSink W → W
+writer_of sink = sink.out

@@ -1,9 +1,10 @@
 //! A sink over a writer of the host, as standard output.
 
-ghost use Rattle.std.specs.Prelude.{◌≡◌, ℕ, None, IsErrOf, is_ok, if◌then◌else◌};
+ghost use Rattle.std.specs.Prelude.{◌≡◌, ℕ, None, IsErrOf, is_ok, if◌then◌else◌, OnOk};
+ghost use Rattle.std.specs.Io.KnownBytes.{Appends};
 ghost use Rattle.tool_edge.specs.Causes.{HasCause};
 ghost use Rattle.tool_edge.specs.Failing.{raised};
-ghost use Rattle.tool_edge.specs.HostSink.{sink_faults};
+ghost use Rattle.tool_edge.specs.HostSink.{sink_faults, writer_of};
 
 use crate::sink::{Sink, SinkFault};
 use std::alloc::Global;
@@ -21,7 +22,8 @@ pub struct HostSink<W: Write + Drop> {
 impl<W: Write + Drop> HostSink<W> {
     /// A sink over this writer, without a fault.
     pub fn new(out: W) -> HostSink<W>
-        ensures { sink_faults result ≡ 0 }
+        ensures faults { sink_faults result ≡ 0 }
+        ensures writer { writer_of result ≡ out }
     {
         HostSink { out, faults: 0 }
     }
@@ -33,6 +35,8 @@ impl<W: Write + Drop> Sink for HostSink<W> {
     ghost faults = { λ sink. sink_faults sink };
 
     fn put(&mut self, _alloc: Global, bytes: &[u8]) -> Result<(), SinkFault>
+        // After an Ok a writer whose bytes are known has been given these, and no others.
+        ensures given { OnOk result (Appends (W.contents (writer_of self.old)) (W.contents (writer_of self.new)) bytes.now) }
         ensures cause { HasCause (sink_faults self.old) (sink_faults self.new) (IsErrOf result SinkFault.Failed) }
         ensures count { sink_faults self.new ≡ (if is_ok result then sink_faults self.old else raised (sink_faults self.old)) }
     {
@@ -47,7 +51,9 @@ impl<W: Write + Drop> Sink for HostSink<W> {
 }
 
 /// Writes and flushes these bytes.
-fn write_out<W: Write>(out: &mut W, bytes: &[u8]) -> io::Result<()> {
+fn write_out<W: Write>(out: &mut W, bytes: &[u8]) -> io::Result<()>
+    ensures { OnOk result (Appends (W.contents out.old) (W.contents out.new) bytes.now) }
+{
     out.write_all(bytes)?;
     out.flush()
 }
