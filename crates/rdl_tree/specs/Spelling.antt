@@ -113,9 +113,15 @@ is_string [] = false
 is_string (b ∷ bs) = (b == 34) && ends_at_first closes_string 34 bs
 
 -- Marks of one byte, `{ } [ ] ; , = : @ .`, and of two, `-> += %=`.
+abbrev pub is_mark_byte : ℕ → Bool
+is_mark_byte b = is_among (codes "{}[];,=:@.") b
+
+abbrev pub is_mark_pair : ℕ → ℕ → Bool
+is_mark_pair b c = ((b == 45) && (c == 62)) || ((b == 43) && (c == 61)) || ((b == 37) && (c == 61))
+
 abbrev pub is_mark : List ℕ → Bool
-is_mark (b ∷ []) = is_among (codes "{}[];,=:@.") b
-is_mark (b ∷ c ∷ []) = ((b == 45) && (c == 62)) || ((b == 43) && (c == 61)) || ((b == 37) && (c == 61))
+is_mark (b ∷ []) = is_mark_byte b
+is_mark (b ∷ c ∷ []) = is_mark_pair b c
 is_mark _ = false
 
 -- A token of a kind.
@@ -142,9 +148,12 @@ is_token kind w value = is_spelled kind w && token_fits kind w && (value == toke
 abbrev pub is_blank : ℕ → Bool
 is_blank b = (b == 32) || (b == 9) || (b == 13) || (b == 10)
 
+abbrev pub is_in_line : ℕ → Bool
+is_in_line b = not (b == 10)
+
 -- 4.2, comments: `//` to the end of the line, which isn't part of it, and `/*` to the next `*/`.
 abbrev pub is_line_comment : List ℕ → Bool
-is_line_comment (b ∷ c ∷ bs) = (b == 47) && (c == 47) && list_all (λ d. not (d == 10)) bs
+is_line_comment (b ∷ c ∷ bs) = (b == 47) && (c == 47) && list_all is_in_line bs
 is_line_comment _ = false
 
 abbrev pub closes_comment : ℕ → ℕ → Bool

@@ -1,6 +1,11 @@
 //! Descriptions in SystemRDL: their tokens and their trees.
 #![tactic(auto)]
 
+mod bytes;
+mod lengths;
+mod numbers;
 pub mod fault;
+pub mod piece;
+pub mod scan;
 pub mod token;
 pub mod tree;
