@@ -1,5 +1,6 @@
 -- The pieces of a description, and its tokens (SystemRDL 2.0, clause 4).
-use Rattle.std.specs.Prelude.{◌≡◌, ◌≢◌, ◌≤◌, ◌<◌, ◌+◌, ◌⊎◌, ℕ, Bool, true, false, List, [], ◌∷◌, ◌++◌, length, reverse, count_by, take_while, ◌==◌}
+use Rattle.std.specs.Prelude.{◌≡◌, ◌≢◌, ◌≤◌, ◌<◌, ◌+◌, ◌⊎◌, ℕ, Bool, true, false, List, [], ◌∷◌, ◌++◌, length, take, drop, Option, Some, None, reverse, count_by, ◌==◌}
+use Rattle.std.specs.List.{prefix_len}
 use Rattle.bit_base.specs.declared.place.Place.{Place}
 use Rattle.rdl_tree.specs.declared.token.RdlTokenKind.TheVariants.{Num}
 use Rattle.rdl_tree.specs.declared.token.RdlToken.{RdlToken}
@@ -21,14 +22,19 @@ pub record IsLongest (rest : List ℕ) (piece : Piece) (text after : List ℕ) :
 abbrev pub BeginsNone : List ℕ → Type 0
 BeginsNone rest = (piece : Piece) (text more : List ℕ) → rest ≡ text ++ more → is_piece piece text ≡ false
 
+-- What a search for the piece in front of `rest` finds: none, or a piece and its length.
+abbrev pub FindsPiece : List ℕ → Option (Piece × ℕ) → Type 0
+FindsPiece rest None = BeginsNone rest
+FindsPiece rest (Some found) = (0 < found.1) × (found.1 ≤ length rest) × IsLongest rest found.0 (take found.1 rest) (drop found.1 rest)
+
 -- No token can be read here: none begins, though bytes are left, or the longest match is a number that doesn't fit.
 pub data IsBad (rest : List ℕ) : Type 0 where
   begins_none : rest ≢ [] → BeginsNone rest → IsBad rest
   too_large : (text after : List ℕ) → IsLongest rest (Token Num) text after → number_fits text ≡ false → IsBad rest
 
 -- The place after these bytes: one line more than line feeds, one column more than bytes behind the last line feed.
-abbrev pub place_after : List ℕ → Place
-place_after front = record { file = 0; line = 1 + count_by (λ b. b == 10) front; column = 1 + length (take_while is_in_line (reverse front)) }
+unfoldable pub place_after : List ℕ → Place
+place_after front = record { file = 0; line = 1 + count_by (λ b. b == 10) front; column = 1 + prefix_len is_in_line (reverse front) }
 
 -- `ts` are the tokens of `front`, the part of the bytes that is read, and `rest` is what is left of them: piece by piece the longest match is read.
 pub data Reads (bytes : List ℕ) : List RdlToken → List ℕ → List ℕ → Type 0 where

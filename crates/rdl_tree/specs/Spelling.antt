@@ -1,6 +1,6 @@
 -- How tokens, blanks and comments are spelled (SystemRDL 2.0, clause 4, "Lexical conventions"), as tests of a whole text.
-use Rattle.std.specs.Prelude.{ℕ, ◌+◌, ◌-◌, ◌*◌, ◌^◌, Bool, true, false, ◌&&◌, ◌||◌, not, ◌==◌, nat_lt, nat_le, if◌then◌else◌, List, [], ◌∷◌, drop, fold, codes}
-use Rattle.std.specs.List.{list_all, list_any}
+use Rattle.std.specs.Prelude.{ℕ, ◌+◌, ◌-◌, ◌*◌, ◌^◌, Bool, true, false, ◌&&◌, ◌||◌, not, ◌==◌, nat_lt, nat_le, if◌then◌else◌, List, [], ◌∷◌, take, drop, fold, codes}
+use Rattle.std.specs.List.{list_all, list_any, prefix_len}
 use Rattle.rdl_tree.specs.declared.token.RdlTokenKind.{RdlTokenKind}
 use Rattle.rdl_tree.specs.declared.token.RdlTokenKind.TheVariants.{Word, Num, Str, Mark}
 
@@ -54,13 +54,14 @@ is_hexadecimal (zero_digit ∷ mark ∷ digits) = (zero_digit == 48) && ((mark =
 is_hexadecimal _ = false
 
 -- The parts of a number with a size, `W'dN`, `W'hN`, `W'bN` or `W'oN`: what stands before the first `'`, and what stands after it.
+abbrev pub is_in_size : ℕ → Bool
+is_in_size b = not (b == 39)
+
 abbrev pub size_of : List ℕ → List ℕ
-size_of [] = []
-size_of (b ∷ bs) = if b == 39 then [] else b ∷ size_of bs
+size_of w = take (prefix_len is_in_size w) w
 
 abbrev pub after_size : List ℕ → List ℕ
-after_size [] = []
-after_size (b ∷ bs) = if b == 39 then bs else after_size bs
+after_size w = drop (prefix_len is_in_size w + 1) w
 
 -- The base that a letter stands for; 0, in which no byte is a digit, for other bytes.
 abbrev pub base_of : ℕ → ℕ

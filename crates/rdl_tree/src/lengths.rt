@@ -241,3 +241,14 @@ fn piece_len(piece: Piece, bytes: &[u8]) -> Option<usize>
         Piece::Token(RdlTokenKind::Mark) => mark_len(bytes),
     }
 }
+
+#[tactic(auto, unfolding(crate::specs::Lengths::piece_at, crate::specs::Lengths::piece_by))]
+/// The longest piece in front, and its length in bytes.
+pub fn piece_at(bytes: &[u8]) -> Option<(Piece, usize)>
+    ensures { result ≡ piece_at bytes.now }
+{
+    let (first, _) = bytes.split_first()?;
+    let piece = piece_of(*first)?;
+    let len = piece_len(piece, bytes)?;
+    Some((piece, len))
+}

@@ -1,9 +1,10 @@
 //! The values of numbers.
 
-ghost use Rattle.std.specs.Prelude.{◌≡◌, ◌≤◌, ◌<◌, ◌^◌, ◌&&◌, true, nat_lt, length, Some, None, if◌then◌else◌};
-ghost use Rattle.rdl_tree.specs.Spelling.{ends_in_digit, is_digits, digits_value, is_size, with_digit};
+ghost use Rattle.std.specs.Prelude.{◌≡◌, ◌≤◌, ◌<◌, ◌^◌, ◌&&◌, true, false, nat_lt, length, Some, None, if◌then◌else◌};
+ghost use Rattle.rdl_tree.specs.Spelling.{ends_in_digit, is_digits, digits_value, is_size, with_digit, is_in_size, is_hexadecimal, is_sized, is_number, number_value, number_fits, base_of};
+ghost use Rattle.std.specs.List.{prefix_len};
 
-use crate::bytes::{digit_of, is_digit};
+use crate::bytes::{base_of, digit_of, is_digit};
 
 /// Digits and `_` behind a digit, the last of them a digit.
 fn ends_in_digit(base: u8, bytes: &[u8]) -> bool
@@ -72,4 +73,77 @@ pub fn is_size(bytes: &[u8]) -> bool
         Some(value) => 1 <= value && value <= 64,
         None => false,
     }
+}
+
+/// `0x` or `0X` and hexadecimal digits.
+fn is_hexadecimal(text: &[u8]) -> bool
+    ensures { result ≡ is_hexadecimal text.now }
+{
+    match text {
+        [first, mark, digits @ ..] if *first == b'0' && matches!(*mark, b'x' | b'X') => {
+            is_digits(16, digits)
+        }
+        _ => false,
+    }
+}
+
+/// How many bytes stand before the first `'`.
+fn size_len(text: &[u8]) -> usize
+    ensures value { result ≡ prefix_len is_in_size text.now }
+    ensures within { result ≤ length text.now }
+{
+    text.iter().take_while(|byte| **byte != b'\'').count()
+}
+
+/// The value of the digits, where it fits the width, which is at most 64 bits.
+fn fitting(width: u64, base: u8, digits: &[u8]) -> Option<u64>
+    requires width { width ≤ 64 }
+    requires low { 1 ≤ base }
+    requires high { base ≤ 16 }
+    ensures { result ≡ (if nat_lt (digits_value base digits.now) (2 ^ width) then Some (digits_value base digits.now) else None) }
+{
+    let value = digits_value(base, digits)?;
+    if u128::from(value) < 1 << width {
+        Some(value)
+    } else {
+        None
+    }
+}
+
+/// The value of the digits behind a size and the letter of a base.
+fn based_value(size: &[u8], letter: u8, digits: &[u8]) -> Option<u64>
+    requires size { is_size size.now ≡ true }
+    requires letter { 1 ≤ base_of letter }
+    ensures { result ≡ (if nat_lt (digits_value (base_of letter) digits.now) (2 ^ digits_value 10 size.now) then Some (digits_value (base_of letter) digits.now) else None) }
+{
+    let width = digits_value(10, size)?;
+    fitting(width, base_of(letter), digits)
+}
+
+/// The value of a number with a size.
+fn sized_value(text: &[u8]) -> Option<u64>
+    requires sized { is_sized text.now ≡ true }
+    requires not_plain { is_digits 10 text.now ≡ false }
+    requires not_hexadecimal { is_hexadecimal text.now ≡ false }
+    ensures { result ≡ (if number_fits text.now then Some (number_value text.now) else None) }
+{
+    let (size, rest) = text.split_at(size_len(text));
+    match rest {
+        [_, letter, digits @ ..] => based_value(size, *letter, digits),
+        _ => None,
+    }
+}
+
+/// The value of a number, where it fits its width.
+pub fn number_value(text: &[u8]) -> Option<u64>
+    requires { is_number text.now ≡ true }
+    ensures { result ≡ (if number_fits text.now then Some (number_value text.now) else None) }
+{
+    if is_digits(10, text) {
+        return fitting(64, 10, text);
+    }
+    if is_hexadecimal(text) {
+        return fitting(64, 16, &text[2..]);
+    }
+    sized_value(text)
 }
