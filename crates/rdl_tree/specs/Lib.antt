@@ -4,3 +4,4 @@ pub mod Pieces
 pub mod Scan
 pub mod Lengths
 pub mod Closing
+pub mod Places

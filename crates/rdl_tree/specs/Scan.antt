@@ -1,5 +1,5 @@
 -- What scanning a description answers.
-use Rattle.std.specs.Prelude.{◌≡◌, ◌≢◌, ◌≤◌, ◌<◌, ◌⊎◌, ◌^◌, ℕ, List, [], length, Result, Ok, Err}
+use Rattle.std.specs.Prelude.{◌≡◌, ◌≢◌, ◌≤◌, ◌<◌, ◌⊎◌, ◌^◌, ℕ, List, [], length, false, Result, Ok, Err}
 use Rattle.bit_base.specs.declared.place.Place.{Place}
 use Rattle.rdl_tree.specs.declared.fault.RdlCode.TheVariants.{RdlByte, RdlSize}
 use Rattle.rdl_tree.specs.declared.fault.RdlFault.{RdlFault}
@@ -7,6 +7,8 @@ use Rattle.rdl_tree.specs.declared.fault.RdlFault.TheVariants.{NoMemory, At}
 use Rattle.rdl_tree.specs.declared.token.RdlToken.{RdlToken}
 use Rattle.rdl_tree.specs.declared.token.RdlTokens.{RdlTokens}
 use Rattle.rdl_tree.specs.declared.scan.TheConstants.{MOST_BYTES, MOST_TOKENS}
+use Rattle.rdl_tree.specs.declared.token.RdlTokenKind.{RdlTokenKind}
+use Rattle.rdl_tree.specs.Spelling.{token_fits}
 use Rattle.rdl_tree.specs.Pieces.{Reads, IsBad, place_after}
 
 -- The place of a refusal of the whole description.
@@ -55,3 +57,9 @@ Answers bytes (Err fault) = Refuses bytes fault
 abbrev pub OneAnswer : Type 0
 OneAnswer =
     (bytes : List ℕ) (a b : Result RdlTokens RdlFault) → Answers bytes a → Answers bytes b → a ≢ Err NoMemory → b ≢ Err NoMemory → a ≡ b
+
+-- A fault at a text of a kind: want of memory, or its number doesn't fit.
+abbrev pub IsNoToken : RdlTokenKind → List ℕ → Place → RdlFault → Type 0
+IsNoToken kind text place NoMemory = Unit {0}
+IsNoToken kind text place (At RdlByte here) = (here ≡ place) × (token_fits kind text ≡ false)
+IsNoToken kind text place (At _ here) = ⊥

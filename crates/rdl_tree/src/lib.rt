@@ -6,6 +6,7 @@ mod lengths;
 mod numbers;
 pub mod fault;
 pub mod piece;
+mod places;
 pub mod scan;
 pub mod token;
 pub mod tree;

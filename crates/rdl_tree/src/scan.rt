@@ -1,6 +1,78 @@
-//! Scanning.
+//! From the bytes of a description to its tokens.
+
+ghost use Rattle.std.specs.Prelude.{◌≡◌, ◌<◌, true, false, length, IfOk, IfErr, Some, None, Err, if◌then◌else◌};
+ghost use Rattle.bit_base.specs.declared.place.Place.{Place};
+ghost use Rattle.rdl_tree.specs.Spelling.{is_spelled, token_fits, token_value};
+ghost use Rattle.rdl_tree.specs.Scan.{IsTokensOf, Refuses, OneAnswer, IsNoToken, whole};
+
+use bit_base::place::Place;
+use bit_base::text::text_of;
+use sqlite_items::Items;
+use std::alloc::Global;
+
+use crate::fault::{RdlCode, RdlFault};
+use crate::lengths::piece_at;
+use crate::numbers::number_value;
+use crate::piece::Piece;
+use crate::places::moved;
+use crate::token::{RdlToken, RdlTokenKind, RdlTokens};
 
 /// The longest description that is read, in bytes.
 pub const MOST_BYTES: usize = 1_048_576;
 /// The most tokens of a description.
 pub const MOST_TOKENS: usize = 100_000;
+
+/// The description is too large.
+fn too_large() -> RdlFault
+    ensures { result ≡ RdlFault.At RdlCode.RdlSize whole }
+{
+    RdlFault::At {
+        code: RdlCode::RdlSize,
+        place: Place {
+            file: 0,
+            line: 0,
+            column: 0,
+        },
+    }
+}
+
+/// No token can be read at this place.
+fn no_token(place: Place) -> RdlFault
+    ensures { result ≡ RdlFault.At RdlCode.RdlByte place }
+{
+    RdlFault::At {
+        code: RdlCode::RdlByte,
+        place,
+    }
+}
+
+/// A token's number, where it fits.
+fn token_value(kind: RdlTokenKind, text: &[u8]) -> Option<u64>
+    requires { is_spelled kind text.now ≡ true }
+    ensures { result ≡ (if token_fits kind text.now then Some (token_value kind text.now) else None) }
+{
+    match kind {
+        RdlTokenKind::Num => number_value(text),
+        _ => Some(0),
+    }
+}
+
+/// The token of this kind and text.
+fn token_of(alloc: Global, kind: RdlTokenKind, text: &[u8], place: Place) -> Result<RdlToken, RdlFault>
+    requires { is_spelled kind text.now ≡ true }
+    ensures ok { IfOk result (λ t. (t.kind ≡ kind) × (t.text ≡ text.now) × (t.place ≡ place)) }
+    ensures err { IfErr result (IsNoToken kind text.now place) }
+{
+    let Some(value) = token_value(kind, text) else {
+        return Err(no_token(place));
+    };
+    match text_of(alloc, text) {
+        Ok(text) => Ok(RdlToken {
+            kind,
+            text,
+            value,
+            place,
+        }),
+        Err(_) => Err(RdlFault::NoMemory),
+    }
+}
