@@ -5,3 +5,5 @@ pub mod Tokens
 pub mod Digits
 pub mod NumberLengths
 pub mod Longest
+pub mod PlaceSteps
+pub mod Scanning

@@ -90,7 +90,7 @@ in_size-digits (b ∷ bs) h =
     let p = and_parts (is_digit 10 b) (ends_in_digit 10 true bs) h in
     and_from _ _ (in_size-digit b p.0) (in_size-ends true bs p.1)
 
-size-digits : (size : List ℕ) → is_size size ≡ true → is_digits 10 size ≡ true
+pub size-digits : (size : List ℕ) → is_size size ≡ true → is_digits 10 size ≡ true
 size-digits size h =
     (and_parts (is_digits 10 size) (nat_le 1 (digits_value 10 size)) (and_parts (is_digits 10 size && nat_le 1 (digits_value 10 size)) (nat_le (digits_value 10 size) 64) h).0).0
 
@@ -202,3 +202,7 @@ number_len-spelled text some =
       (digits_len-within 10 text, rw (digits_len-digits 10 text some) refl)
       (λ h. let p = hexadecimal_len-spelled text h in (p.0, rw (p.1, or-true) refl))
       (λ h. let p = sized_len-spelled text h in (p.0, rw (p.1, or-true) refl))
+
+pub number_len-some : (text : List ℕ) → 0 < digits_len 10 text → 0 < number_len text
+unfolding number_len
+number_len-some text h = omega (arith, h)

@@ -66,13 +66,54 @@ fn token_of(alloc: Global, kind: RdlTokenKind, text: &[u8], place: Place) -> Res
     let Some(value) = token_value(kind, text) else {
         return Err(no_token(place));
     };
-    match text_of(alloc, text) {
-        Ok(text) => Ok(RdlToken {
-            kind,
-            text,
-            value,
-            place,
-        }),
-        Err(_) => Err(RdlFault::NoMemory),
+    let text = text_of(alloc, text)?;
+    Ok(RdlToken {
+        kind,
+        text,
+        value,
+        place,
+    })
+}
+
+/// The tokens of a description, each the longest match at its place, and the place after the last byte. Places are in
+/// file 0, with lines and columns from 1 in bytes. Refusals:
+///
+/// - 108 at 0:0 where the description has over 1 MiB;
+/// - 101 at the first byte of what is no token, blank or comment, also of an unclosed comment or string, of a number of
+///   2^64 or more, and of a number that doesn't fit its size;
+/// - 108 at 0:0 where the token after the first 100,000 can be read.
+pub fn scan_rdl(alloc: Global, bytes: &[u8]) -> Result<RdlTokens, RdlFault>
+    ensures tokens { IfOk result (IsTokensOf bytes.now) }
+    ensures too_long { MOST_BYTES < length bytes.now → result ≡ Err (RdlFault.At RdlCode.RdlSize whole) }
+    ensures refused { IfErr result (Refuses bytes.now) }
+{
+    if bytes.len() > MOST_BYTES {
+        return Err(too_large());
     }
+    let mut list = Items::new(alloc);
+    let mut rest = bytes;
+    let mut place = Place {
+        file: 0,
+        line: 1,
+        column: 1,
+    };
+    while !rest.is_empty() {
+        let Some((piece, len)) = piece_at(rest) else {
+            return Err(no_token(place));
+        };
+        let (text, after) = rest.split_at(len);
+        if let Piece::Token(kind) = piece {
+            let token = match token_of(alloc, kind, text, place) {
+                Ok(token) => token,
+                Err(fault) => return Err(fault),
+            };
+            if list.len() >= MOST_TOKENS {
+                return Err(too_large());
+            }
+            list.push(token)?;
+        }
+        place = moved(place, text);
+        rest = after;
+    }
+    Ok(RdlTokens { list, end: place })
 }
