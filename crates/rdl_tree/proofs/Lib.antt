@@ -7,3 +7,4 @@ pub mod NumberLengths
 pub mod Longest
 pub mod PlaceSteps
 pub mod Scanning
+pub mod Answers

@@ -238,7 +238,7 @@ letter_is_no_digit b h = not-true (is_digit 10 b) (by_test (is_digit 10 b) refl)
     by_test false e = refl
     by_test true e = absurd (omega (arith, decimal-digit b e, letter-high b h))
 
-first_piece : List ℕ → Option Piece
+unfoldable pub first_piece : List ℕ → Option Piece
 first_piece [] = None
 first_piece (b ∷ bs) = piece_of b
 
@@ -364,11 +364,11 @@ spelled (b ∷ bs) piece h =
             | inr h ↦ absurd (none-some piece h) ] ] ] ] ]
 
 -- Two pieces that one text can begin are the same.
-same_piece : (rest : List ℕ) (p q : Piece) → first_piece rest ≡ Some p → first_piece rest ≡ Some q → p ≡ q
+pub same_piece : (rest : List ℕ) (p q : Piece) → first_piece rest ≡ Some p → first_piece rest ≡ Some q → p ≡ q
 same_piece rest p q e f = same_Some p q (sym e ∙ f)
 
 -- What a front that is spelled as a piece says of the rest that it begins.
-fronts : (rest : List ℕ) (piece : Piece) (text more : List ℕ) → rest ≡ text ++ more → is_piece piece text ≡ true → (first_piece rest ≡ Some piece) × Covers (piece_len piece rest) (length text)
+pub fronts : (rest : List ℕ) (piece : Piece) (text more : List ℕ) → rest ≡ text ++ more → is_piece piece text ≡ true → (first_piece rest ≡ Some piece) × Covers (piece_len piece rest) (length text)
 fronts rest piece text more e h = rw e (first_piece-append text more piece (begins piece text h), covers piece text more h)
 
 false-from : (t : Bool) → (t ≡ true → ⊥) → t ≡ false

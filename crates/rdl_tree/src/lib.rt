@@ -7,6 +7,7 @@ mod numbers;
 pub mod fault;
 pub mod piece;
 mod places;
+pub mod reserved;
 pub mod scan;
 pub mod token;
 pub mod tree;

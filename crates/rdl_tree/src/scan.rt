@@ -117,3 +117,10 @@ pub fn scan_rdl(alloc: Global, bytes: &[u8]) -> Result<RdlTokens, RdlFault>
     }
     Ok(RdlTokens { list, end: place })
 }
+
+/// What a scan answers is determined by the bytes, but for want of memory: the tokens and each refusal exclude each
+/// other.
+pub fn one_answer()
+    ensures { OneAnswer }
+{
+}
