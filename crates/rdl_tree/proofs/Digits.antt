@@ -14,10 +14,12 @@ unfolding more_digits
 more_digits-within base [] = omega arith
 more_digits-within base (b ∷ bs) =
     elim (is_digit base b) as (λ t. cond t (1 + more_digits base bs) (cond ((b == 95) && nat_lt 0 (more_digits base bs)) (1 + more_digits base bs) 0) ≤ suc (length bs)) [
-      true ↦ omega (arith, more_digits-within base bs)
-    | false ↦ elim ((b == 95) && nat_lt 0 (more_digits base bs)) as (λ t. cond t (1 + more_digits base bs) 0 ≤ suc (length bs)) [
-        true ↦ omega (arith, more_digits-within base bs)
-      | false ↦ omega arith ] ]
+      | true ↦ omega (arith, more_digits-within base bs)
+      | false ↦ elim ((b == 95) && nat_lt 0 (more_digits base bs)) as (λ t. cond t (1 + more_digits base bs) 0 ≤ suc (length bs)) [
+        | true ↦ omega (arith, more_digits-within base bs)
+        | false ↦ omega arith
+      ]
+    ]
 
 pub digits_len-within : (base : ℕ) (bs : List ℕ) → digits_len base bs ≤ length bs
 unfolding digits_len
@@ -42,7 +44,7 @@ unfolding more_digits
 more_digits-covers base ended [] more h = omega arith
 more_digits-covers base ended (b ∷ bs) more h =
     covers_by (is_digit base b) (b == 95) (ends_in_digit base true bs) (ends_in_digit base false bs) (more_digits base (bs ++ more)) (length bs)
-      (λ e. more_digits-covers base true bs more e) (λ e. more_digits-covers base false bs more e) (λ e. ends-behind_gap base bs e) h
+    (λ e. more_digits-covers base true bs more e) (λ e. more_digits-covers base false bs more e) (λ e. ends-behind_gap base bs e) h
 
 pub digits_len-covers : (base : ℕ) (bs more : List ℕ) → is_digits base bs ≡ true → length bs ≤ digits_len base (bs ++ more)
 unfolding digits_len
@@ -86,7 +88,7 @@ unfolding more_digits
 more_digits-stops base ended [] b more h no_digit no_gap = rw (no_digit, no_gap) refl
 more_digits-stops base ended (c ∷ bs) b more h no_digit no_gap =
     stops_by (is_digit base c) (c == 95) (ends_in_digit base true bs) (ends_in_digit base false bs) (more_digits base (bs ++ b ∷ more)) (length bs)
-      (λ e. more_digits-stops base true bs b more e no_digit no_gap) (λ e. more_digits-stops base false bs b more e no_digit no_gap) (λ e. ends-behind_gap base bs e) h
+    (λ e. more_digits-stops base true bs b more e no_digit no_gap) (λ e. more_digits-stops base false bs b more e no_digit no_gap) (λ e. ends-behind_gap base bs e) h
   where
     stops_by : (digit gap : Bool) (ends ends_gap : Bool) (n len : ℕ) → (ends ≡ true → n ≡ len) → (ends_gap ≡ true → n ≡ len) → (ends_gap ≡ true → 1 ≤ len)
         → cond digit ends (gap && ends_gap) ≡ true → cond digit (1 + n) (cond (gap && nat_lt 0 n) (1 + n) 0) ≡ suc len

@@ -104,18 +104,21 @@ among-all test [] b all h = elim (false≢true h) [ ]
 among-all test (c ∷ cs) b all h =
     let parts = and_parts (test c) (list_all test cs) all in
     elim (or_cases (b == c) (is_among cs b) h) [
-      inl e ↦ rw (eqb-true b c e) parts.0
-    | inr e ↦ among-all test cs b parts.1 e ]
+      | inl e ↦ rw (eqb-true b c e) parts.0
+      | inr e ↦ among-all test cs b parts.1 e
+    ]
 
 -- The first byte of a mark of two bytes: `-`, `+` or `%`.
 first_of_pair : (test : ℕ → Bool) (b c : ℕ) → list_all test (codes "-+%") ≡ true → is_mark_pair b c ≡ true → test b ≡ true
 first_of_pair test b c all h =
     among-all test (codes "-+%") b all
-      (elim (or_cases (((b == 45) && (c == 62)) || ((b == 43) && (c == 61))) ((b == 37) && (c == 61)) h) [
-        inr e ↦ rw (eqb-true b 37 (and_parts (b == 37) (c == 61) e).0) refl
+    (elim (or_cases (((b == 45) && (c == 62)) || ((b == 43) && (c == 61))) ((b == 37) && (c == 61)) h) [
+      | inr e ↦ rw (eqb-true b 37 (and_parts (b == 37) (c == 61) e).0) refl
       | inl e ↦ elim (or_cases ((b == 45) && (c == 62)) ((b == 43) && (c == 61)) e) [
-          inl f ↦ rw (eqb-true b 45 (and_parts (b == 45) (c == 62) f).0) refl
-        | inr f ↦ rw (eqb-true b 43 (and_parts (b == 43) (c == 61) f).0) refl ] ])
+        | inl f ↦ rw (eqb-true b 45 (and_parts (b == 45) (c == 62) f).0) refl
+        | inr f ↦ rw (eqb-true b 43 (and_parts (b == 43) (c == 61) f).0) refl
+      ]
+    ])
 
 pair_is_no_byte : (b c : ℕ) → is_mark_pair b c ≡ true → is_mark_byte b ≡ false
 pair_is_no_byte b c h = not-true (is_mark_byte b) (first_of_pair (λ d. not (is_mark_byte d)) b c refl h)
@@ -147,12 +150,15 @@ mark-spelled (b ∷ c ∷ bs) = spelled_by (is_mark_byte b) (is_mark_pair b c) r
 blank-all : (test : ℕ → Bool) (b : ℕ) → test 32 ≡ true → test 9 ≡ true → test 13 ≡ true → test 10 ≡ true → is_blank b ≡ true → test b ≡ true
 blank-all test b space tab return feed h =
     elim (or_cases ((b == 32) || (b == 9) || (b == 13)) (b == 10) h) [
-      inr e ↦ rw (eqb-true b 10 e) feed
-    | inl e ↦ elim (or_cases ((b == 32) || (b == 9)) (b == 13) e) [
-        inr f ↦ rw (eqb-true b 13 f) return
-      | inl f ↦ elim (or_cases (b == 32) (b == 9) f) [
-          inl g ↦ rw (eqb-true b 32 g) space
-        | inr g ↦ rw (eqb-true b 9 g) tab ] ] ]
+      | inr e ↦ rw (eqb-true b 10 e) feed
+      | inl e ↦ elim (or_cases ((b == 32) || (b == 9)) (b == 13) e) [
+        | inr f ↦ rw (eqb-true b 13 f) return
+        | inl f ↦ elim (or_cases (b == 32) (b == 9) f) [
+          | inl g ↦ rw (eqb-true b 32 g) space
+          | inr g ↦ rw (eqb-true b 9 g) tab
+        ]
+      ]
+    ]
 
 line-covers : (text more : List ℕ) → is_line_comment text ≡ true → Covers (gap_len (text ++ more)) (length text)
 unfolding gap_len comment_len
@@ -181,10 +187,12 @@ blank-covers (b ∷ c ∷ bs) more h = elim (false≢true h) [ ]
 gap-covers : (text more : List ℕ) → is_gap text ≡ true → Covers (gap_len (text ++ more)) (length text)
 gap-covers text more h =
     elim (or_cases (is_one_blank text || is_line_comment text) (is_block_comment text) h) [
-      inr e ↦ block-covers text more e
-    | inl e ↦ elim (or_cases (is_one_blank text) (is_line_comment text) e) [
-        inl f ↦ blank-covers text more f
-      | inr f ↦ line-covers text more f ] ]
+      | inr e ↦ block-covers text more e
+      | inl e ↦ elim (or_cases (is_one_blank text) (is_line_comment text) e) [
+        | inl f ↦ blank-covers text more f
+        | inr f ↦ line-covers text more f
+      ]
+    ]
 
 comment-spelled : (b : ℕ) (bs : List ℕ) → (b == 47) ≡ true → IsSpelled Gap (b ∷ bs) (comment_len (b ∷ bs))
 unfolding comment_len
@@ -193,6 +201,7 @@ comment-spelled b (c ∷ bs) h = spelled_by (c == 47) (c == 42) refl refl (closi
   where
     two : (n : ℕ) → take (2 + n) (b ∷ c ∷ bs) ≡ b ∷ c ∷ take n bs
     two n = let e : 2 + n ≡ suc (suc n) = omega arith in rw e refl
+
     spelled_by : (t u : Bool) → (c == 47) ≡ t → (c == 42) ≡ u → (found : Option ℕ) → ClosesAt closes_comment 0 bs found
         → IsSpelled Gap (b ∷ c ∷ bs) (cond t (Some (2 + prefix_len is_in_line bs)) (cond u (option_map (λ n. 2 + n) found) None))
     spelled_by true u e f found closed =
@@ -226,10 +235,12 @@ decimal-digit b h = by_tests (nat_le 48 b && nat_le b 57) (nat_le 97 b && nat_le
 letter-high : (b : ℕ) → is_letter b ≡ true → 65 ≤ b
 letter-high b h =
     elim (or_cases ((nat_le 65 b && nat_le b 90) || (nat_le 97 b && nat_le b 122)) (b == 95) h) [
-      inr e ↦ omega (arith, eqb-true b 95 e)
-    | inl e ↦ elim (or_cases (nat_le 65 b && nat_le b 90) (nat_le 97 b && nat_le b 122) e) [
-        inl f ↦ leb-true 65 b (and_parts (nat_le 65 b) (nat_le b 90) f).0
-      | inr f ↦ omega (arith, leb-true 97 b (and_parts (nat_le 97 b) (nat_le b 122) f).0) ] ]
+      | inr e ↦ omega (arith, eqb-true b 95 e)
+      | inl e ↦ elim (or_cases (nat_le 65 b && nat_le b 90) (nat_le 97 b && nat_le b 122) e) [
+        | inl f ↦ leb-true 65 b (and_parts (nat_le 65 b) (nat_le b 90) f).0
+        | inr f ↦ omega (arith, leb-true 97 b (and_parts (nat_le 97 b) (nat_le b 122) f).0)
+      ]
+    ]
 
 letter_is_no_digit : (b : ℕ) → is_letter b ≡ true → is_digit 10 b ≡ false
 letter_is_no_digit b h = not-true (is_digit 10 b) (by_test (is_digit 10 b) refl)
@@ -245,15 +256,18 @@ first_piece (b ∷ bs) = piece_of b
 number-begins : (b : ℕ) (bs : List ℕ) → is_number (b ∷ bs) ≡ true → is_digit 10 b ≡ true
 number-begins b bs h =
     elim (or_cases (is_digits 10 (b ∷ bs) || is_hexadecimal (b ∷ bs)) (is_sized (b ∷ bs)) h) [
-      inl e ↦ elim (or_cases (is_digits 10 (b ∷ bs)) (is_hexadecimal (b ∷ bs)) e) [
-        inl f ↦ (and_parts (is_digit 10 b) (ends_in_digit 10 true bs) f).0
-      | inr f ↦ hexadecimal_begins bs f ]
-    | inr e ↦ front_begins (prefix_len is_in_size (b ∷ bs)) (size-digits (size_of (b ∷ bs)) (and_parts (is_size (size_of (b ∷ bs))) (is_digits (base_after_size (after_size (b ∷ bs))) (drop 1 (after_size (b ∷ bs)))) e).0) ]
+      | inl e ↦ elim (or_cases (is_digits 10 (b ∷ bs)) (is_hexadecimal (b ∷ bs)) e) [
+        | inl f ↦ (and_parts (is_digit 10 b) (ends_in_digit 10 true bs) f).0
+        | inr f ↦ hexadecimal_begins bs f
+      ]
+      | inr e ↦ front_begins (prefix_len is_in_size (b ∷ bs)) (size-digits (size_of (b ∷ bs)) (and_parts (is_size (size_of (b ∷ bs))) (is_digits (base_after_size (after_size (b ∷ bs))) (drop 1 (after_size (b ∷ bs)))) e).0)
+    ]
   where
     hexadecimal_begins : (bs : List ℕ) → is_hexadecimal (b ∷ bs) ≡ true → is_digit 10 b ≡ true
     hexadecimal_begins [] f = elim (false≢true f) [ ]
     hexadecimal_begins (mark ∷ digits) f =
         rw (eqb-true b 48 (and_parts (b == 48) ((mark == 120) || (mark == 88)) (and_parts ((b == 48) && ((mark == 120) || (mark == 88))) (is_digits 16 digits) f).0).0) refl
+
     front_begins : (n : ℕ) → is_digits 10 (take n (b ∷ bs)) ≡ true → is_digit 10 b ≡ true
     front_begins zero f = elim (false≢true f) [ ]
     front_begins (suc n) f = (and_parts (is_digit 10 b) (ends_in_digit 10 true (take n bs)) f).0
@@ -294,14 +308,17 @@ unfolding first_piece is_gap_piece piece_of
 gap-begins [] h = elim (false≢true h) [ ]
 gap-begins (b ∷ []) h =
     elim (or_cases (is_blank b || false) false h) [
-      inr e ↦ elim (false≢true e) [ ]
-    | inl e ↦ elim (or_cases (is_blank b) false e) [
-        inl f ↦ is_gap_piece-true (piece_of b) (blank-all (λ d. is_gap_piece (piece_of d)) b refl refl refl refl f)
-      | inr f ↦ elim (false≢true f) [ ] ] ]
+      | inr e ↦ elim (false≢true e) [ ]
+      | inl e ↦ elim (or_cases (is_blank b) false e) [
+        | inl f ↦ is_gap_piece-true (piece_of b) (blank-all (λ d. is_gap_piece (piece_of d)) b refl refl refl refl f)
+        | inr f ↦ elim (false≢true f) [ ]
+      ]
+    ]
 gap-begins (b ∷ c ∷ bs) h =
     elim (or_cases (is_line_comment (b ∷ c ∷ bs)) (is_block_comment (b ∷ c ∷ bs)) h) [
-      inl e ↦ rw (eqb-true b 47 (and_parts (b == 47) (c == 47) (and_parts ((b == 47) && (c == 47)) (list_all is_in_line bs) e).0).0) refl
-    | inr e ↦ rw (eqb-true b 47 (and_parts (b == 47) (c == 42) (and_parts ((b == 47) && (c == 42)) (ends_at_first closes_comment 0 bs) e).0).0) refl ]
+      | inl e ↦ rw (eqb-true b 47 (and_parts (b == 47) (c == 47) (and_parts ((b == 47) && (c == 47)) (list_all is_in_line bs) e).0).0) refl
+      | inr e ↦ rw (eqb-true b 47 (and_parts (b == 47) (c == 42) (and_parts ((b == 47) && (c == 42)) (ends_at_first closes_comment 0 bs) e).0).0) refl
+    ]
 
 -- A text begins with a byte that can begin its piece.
 begins : (piece : Piece) (text : List ℕ) → is_piece piece text ≡ true → first_piece text ≡ Some piece
@@ -352,16 +369,21 @@ unfolding first_piece piece_of piece_len
 spelled [] piece h = absurd (none-some piece h)
 spelled (b ∷ bs) piece h =
     elim (chosen (is_digit 10 b) (Token Num) piece _ h) [
-      inl p ↦ rw (sym p.1) (number-spelled b bs p.0)
-    | inr h ↦ elim (chosen (is_letter b) (Token Word) piece _ h) [
-        inl p ↦ rw (sym p.1) (word-spelled b bs p.0)
-      | inr h ↦ elim (chosen (b == 34) (Token Str) piece _ h) [
-          inl p ↦ rw (sym p.1) (string-spelled b bs p.0)
-        | inr h ↦ elim (chosen (is_blank b || (b == 47)) Gap piece _ h) [
-            inl p ↦ rw (sym p.1) (gap-spelled b bs p.0)
-          | inr h ↦ elim (chosen (is_mark_byte b || (b == 45) || (b == 43) || (b == 37)) (Token Mark) piece None h) [
-              inl p ↦ rw (sym p.1) (mark-spelled (b ∷ bs))
-            | inr h ↦ absurd (none-some piece h) ] ] ] ] ]
+      | inl p ↦ rw (sym p.1) (number-spelled b bs p.0)
+      | inr h ↦ elim (chosen (is_letter b) (Token Word) piece _ h) [
+        | inl p ↦ rw (sym p.1) (word-spelled b bs p.0)
+        | inr h ↦ elim (chosen (b == 34) (Token Str) piece _ h) [
+          | inl p ↦ rw (sym p.1) (string-spelled b bs p.0)
+          | inr h ↦ elim (chosen (is_blank b || (b == 47)) Gap piece _ h) [
+            | inl p ↦ rw (sym p.1) (gap-spelled b bs p.0)
+            | inr h ↦ elim (chosen (is_mark_byte b || (b == 45) || (b == 43) || (b == 37)) (Token Mark) piece None h) [
+              | inl p ↦ rw (sym p.1) (mark-spelled (b ∷ bs))
+              | inr h ↦ absurd (none-some piece h)
+            ]
+          ]
+        ]
+      ]
+    ]
 
 -- Two pieces that one text can begin are the same.
 pub same_piece : (rest : List ℕ) (p q : Piece) → first_piece rest ≡ Some p → first_piece rest ≡ Some q → p ≡ q
@@ -378,19 +400,23 @@ false-from false h = refl
 finds_by : (rest : List ℕ) (piece : Piece) (len : Option ℕ) → first_piece rest ≡ Some piece → piece_len piece rest ≡ len → IsSpelled piece rest len → FindsPiece rest (found_piece piece len)
 finds_by rest piece None first is spells =
     λ other text more e. false-from (is_piece other text) (λ h.
-      let f = fronts rest other text more e h in
-      let covered : Covers (piece_len piece rest) (length text) = rw (same_piece rest piece other first f.0) f.1 in
-      let nothing : Covers None (length text) = rw is at covered in
-      nothing)
-finds_by rest piece (Some n) first is spells =
-    (spells.0, spells.1, record {
-      front = sym (take-append-drop n rest);
-      spelled = spells.2;
-      longest = λ other longer more e h.
+    let f = fronts rest other text more e h in
+    let covered : Covers (piece_len piece rest) (length text) = rw (same_piece rest piece other first f.0) f.1 in
+    let nothing : Covers None (length text) = rw is at covered in
+    nothing)
+finds_by rest piece (Some n) first is spells = (
+  spells.0,
+  spells.1,
+  record {
+    front = sym (take-append-drop n rest);
+    spelled = spells.2;
+    longest = λ other longer more e h.
         let f = fronts rest other longer more e h in
         let covered : Covers (piece_len piece rest) (length longer) = rw (same_piece rest piece other first f.0) f.1 in
         let within : length longer ≤ n = rw is at covered in
-        rw (length-take-le n rest spells.1) within })
+        rw (length-take-le n rest spells.1) within;
+  },
+)
 
 finds : (rest : List ℕ) (first : Option Piece) → first_piece rest ≡ first → FindsPiece rest (piece_by first rest)
 unfolding piece_by

@@ -82,7 +82,7 @@ in_size-ends : (ended : Bool) (bs : List ℕ) → ends_in_digit 10 ended bs ≡ 
 in_size-ends ended [] h = refl
 in_size-ends ended (b ∷ bs) h =
     in_size-by b (list_all is_in_size bs) (ends_in_digit 10 true bs) (ends_in_digit 10 false bs) (is_digit 10 b) (b == 95) refl refl
-      (λ e. in_size-ends true bs e) (λ e. in_size-ends false bs e) h
+    (λ e. in_size-ends true bs e) (λ e. in_size-ends false bs e) h
 
 in_size-digits : (bs : List ℕ) → is_digits 10 bs ≡ true → list_all is_in_size bs ≡ true
 in_size-digits [] h = refl
@@ -106,9 +106,9 @@ sized-from size [] h b = absurd b
 sized-from size (q ∷ []) h b = absurd b
 sized-from size (q ∷ letter ∷ digits) h b =
     let len : prefix_len is_in_size (size ++ q ∷ letter ∷ digits) ≡ length size =
-          rw b.0 (prefix_len-stops is_in_size size 39 (letter ∷ digits) (in_size-digits size (size-digits size h)) refl) in
+    rw b.0 (prefix_len-stops is_in_size size 39 (letter ∷ digits) (in_size-digits size (size-digits size h)) refl) in
     let behind_quote : drop (length size + 1) (size ++ q ∷ letter ∷ digits) ≡ letter ∷ digits =
-          sym (drop-drop 1 (length size) (size ++ q ∷ letter ∷ digits)) ∙ ap (drop 1) (drop_at size (q ∷ letter ∷ digits) (length size) refl) in
+    sym (drop-drop 1 (length size) (size ++ q ∷ letter ∷ digits)) ∙ ap (drop 1) (drop_at size (q ∷ letter ∷ digits) (length size) refl) in
     rw (len, take_at size (q ∷ letter ∷ digits) (length size) refl, behind_quote) (and_from _ _ h b.1)
 
 based_len-spelled : (rest : List ℕ) → 0 < based_len rest → (based_len rest ≤ length rest) × IsBased (take (based_len rest) rest)
@@ -134,15 +134,16 @@ sized_len-spelled text h = by_test (is_size (take (digits_len 10 text) text)) re
   where
     by_test : (t : Bool) → is_size (take (digits_len 10 text) text) ≡ t → 0 < cond t (behind (digits_len 10 text) (based_len (drop (digits_len 10 text) text))) 0
         → (cond t (behind (digits_len 10 text) (based_len (drop (digits_len 10 text) text))) 0 ≤ length text)
-          × (is_sized (take (cond t (behind (digits_len 10 text) (based_len (drop (digits_len 10 text) text))) 0) text) ≡ true)
+        × (is_sized (take (cond t (behind (digits_len 10 text) (based_len (drop (digits_len 10 text) text))) 0) text) ≡ true)
     by_test false e g = absurd (omega (arith, g))
     by_test true e g =
         let n : ℕ = digits_len 10 text in
         let k : ℕ = based_len (drop n text) in
         let p = behind-positive n k g in
-        let b = based_len-spelled (drop n text) p.0 in
-        (rw p.1 (omega (arith, b.0, length-drop n text, digits_len-within 10 text)),
-         rw (p.1, take_split n k text (digits_len-within 10 text)) (sized-from (take n text) (take k (drop n text)) e b.1))
+        let b = based_len-spelled (drop n text) p.0 in (
+          rw p.1 (omega (arith, b.0, length-drop n text, digits_len-within 10 text)),
+          rw (p.1, take_split n k text (digits_len-within 10 text)) (sized-from (take n text) (take k (drop n text)) e b.1),
+        )
 
 sized_len-at : (size more : List ℕ) → is_size size ≡ true → sized_len (size ++ 39 ∷ more) ≡ behind (length size) (based_len (39 ∷ more))
 unfolding sized_len
@@ -163,8 +164,12 @@ sized_len-by_parts size (q ∷ letter ∷ ds) more h stops digits =
     let covers = digits_len-covers (base_of letter) ds more digits in
     let some : 0 < digits_len (base_of letter) (ds ++ more) = omega (arith, covers, digits-some (base_of letter) ds digits) in
     let whole : sized_len ((size ++ 39 ∷ letter ∷ ds) ++ more) ≡ length size + (2 + digits_len (base_of letter) (ds ++ more)) =
-          rw (append_assoc size (39 ∷ letter ∷ ds) more, sized_len-at size (letter ∷ (ds ++ more)) h, based_len-at letter (ds ++ more),
-              behind-some 2 (digits_len (base_of letter) (ds ++ more)) some) (behind-some (length size) (2 + digits_len (base_of letter) (ds ++ more)) (omega arith)) in
+    rw (
+      append_assoc size (39 ∷ letter ∷ ds) more,
+      sized_len-at size (letter ∷ (ds ++ more)) h,
+      based_len-at letter (ds ++ more),
+      behind-some 2 (digits_len (base_of letter) (ds ++ more)) some,
+    ) (behind-some (length size) (2 + digits_len (base_of letter) (ds ++ more)) (omega arith)) in
     rw (at_quote, whole, length-append size (39 ∷ letter ∷ ds)) (omega (arith, covers))
 
 sized_len-covers : (text more : List ℕ) → is_sized text ≡ true → length text ≤ sized_len (text ++ more)
@@ -173,35 +178,39 @@ sized_len-covers text more h =
     let parts = and_parts (is_size (size_of text)) (is_digits (base_after_size (after_size text)) (drop 1 (after_size text))) h in
     let behind_quote : drop (n + 1) text ≡ drop 1 (drop n text) = sym (drop-drop 1 n text) in
     rw (take-append-drop n text) at (sized_len-by_parts (take n text) (drop n text) more parts.0
-      (λ some. rw (get_or-drop n text 0 0, add-zero) (prefix_len_stops is_in_size text 0 (omega (arith, some, length-drop n text))))
-      (rw behind_quote at parts.1))
+    (λ some. rw (get_or-drop n text 0 0, add-zero) (prefix_len_stops is_in_size text 0 (omega (arith, some, length-drop n text))))
+    (rw behind_quote at parts.1))
 
 -- Numbers of any form.
 pub number_len-covers : (text more : List ℕ) → is_number text ≡ true → length text ≤ number_len (text ++ more)
 unfolding number_len
 number_len-covers text more h =
     elim (or_cases (is_digits 10 text || is_hexadecimal text) (is_sized text) h) [
-      inl e ↦ elim (or_cases (is_digits 10 text) (is_hexadecimal text) e) [
-        inl f ↦ omega (arith, digits_len-covers 10 text more f)
-      | inr f ↦ omega (arith, hexadecimal_len-covers text more f) ]
-    | inr e ↦ omega (arith, sized_len-covers text more e) ]
+      | inl e ↦ elim (or_cases (is_digits 10 text) (is_hexadecimal text) e) [
+        | inl f ↦ omega (arith, digits_len-covers 10 text more f)
+        | inr f ↦ omega (arith, hexadecimal_len-covers text more f)
+      ]
+      | inr e ↦ omega (arith, sized_len-covers text more e)
+    ]
 
 -- What is the greatest of three lengths, and is there as soon as it isn't 0, is there.
 greatest : (P : ℕ → Type 0) (a b c : ℕ) → 0 < a → P a → (0 < b → P b) → (0 < c → P c) → P (max a (max b c))
 greatest P a b c some here second third =
     elim (cases_lt a (max b c)) [
-      inr e ↦ (let g : max a (max b c) ≡ a = omega arith in rw g here)
-    | inl e ↦ (let g : max a (max b c) ≡ max b c = omega arith in rw g (elim (cases_lt b c) [
-        inl f ↦ (let g : max b c ≡ c = omega arith in rw g (third (omega arith)))
-      | inr f ↦ (let g : max b c ≡ b = omega arith in rw g (second (omega arith))) ])) ]
+      | inr e ↦ (let g : max a (max b c) ≡ a = omega arith in rw g here)
+      | inl e ↦ (let g : max a (max b c) ≡ max b c = omega arith in rw g (elim (cases_lt b c) [
+        | inl f ↦ (let g : max b c ≡ c = omega arith in rw g (third (omega arith)))
+        | inr f ↦ (let g : max b c ≡ b = omega arith in rw g (second (omega arith)))
+      ]))
+    ]
 
 pub number_len-spelled : (text : List ℕ) → 0 < digits_len 10 text → (number_len text ≤ length text) × (is_number (take (number_len text) text) ≡ true)
 unfolding number_len
 number_len-spelled text some =
     greatest (λ n. (n ≤ length text) × (is_number (take n text) ≡ true)) (digits_len 10 text) (hexadecimal_len text) (sized_len text) some
-      (digits_len-within 10 text, rw (digits_len-digits 10 text some) refl)
-      (λ h. let p = hexadecimal_len-spelled text h in (p.0, rw (p.1, or-true) refl))
-      (λ h. let p = sized_len-spelled text h in (p.0, rw (p.1, or-true) refl))
+    (digits_len-within 10 text, rw (digits_len-digits 10 text some) refl)
+    (λ h. let p = hexadecimal_len-spelled text h in (p.0, rw (p.1, or-true) refl))
+    (λ h. let p = sized_len-spelled text h in (p.0, rw (p.1, or-true) refl))
 
 pub number_len-some : (text : List ℕ) → 0 < digits_len 10 text → 0 < number_len text
 unfolding number_len

@@ -61,7 +61,8 @@ module _ (bytes : List ℕ) (ts : List RdlToken) (rest : List ℕ) (place : Plac
     read = gap ts scanned.front rest text after scanned.read m;
     here = scanned-moved text;
     few = scanned.few;
-    small = scanned.small }
+    small = scanned.small;
+  }
 
   pub scanned-token : (t : RdlToken) (after : List ℕ) → IsLongest rest (Token t.kind) t.text after → t.place ≡ place → length ts < MOST_TOKENS → IsScanned bytes (ts ++ t ∷ []) after (moved place t.text)
   scanned-token t after m at few = record {
@@ -69,15 +70,32 @@ module _ (bytes : List ℕ) (ts : List RdlToken) (rest : List ℕ) (place : Plac
     read = token ts scanned.front rest after t scanned.read m (at ∙ scanned.here);
     here = scanned-moved t.text;
     few = rw (length-append ts (t ∷ [])) (omega (arith, few));
-    small = scanned.small }
+    small = scanned.small;
+  }
 
   pub scanned-none : rest ≢ [] → BeginsNone rest → IsBadAt bytes place
   scanned-none some none = record {
-    small = scanned.small; ts = ts; front = scanned.front; rest = rest; few = scanned.few; read = scanned.read; bad = begins_none some none; here = scanned.here }
+    small = scanned.small;
+    ts = ts;
+    front = scanned.front;
+    rest = rest;
+    few = scanned.few;
+    read = scanned.read;
+    bad = begins_none some none;
+    here = scanned.here;
+  }
 
   pub scanned-large : (kind : RdlTokenKind) (text after : List ℕ) → IsLongest rest (Token kind) text after → token_fits kind text ≡ false → IsBadAt bytes place
   scanned-large Num text after m large = record {
-    small = scanned.small; ts = ts; front = scanned.front; rest = rest; few = scanned.few; read = scanned.read; bad = too_large text after m large; here = scanned.here }
+    small = scanned.small;
+    ts = ts;
+    front = scanned.front;
+    rest = rest;
+    few = scanned.few;
+    read = scanned.read;
+    bad = too_large text after m large;
+    here = scanned.here;
+  }
   scanned-large Word text after m large = absurd (true≢false large)
   scanned-large Str text after m large = absurd (true≢false large)
   scanned-large Mark text after m large = absurd (true≢false large)
@@ -89,7 +107,8 @@ module _ (bytes : List ℕ) (ts : List RdlToken) (rest : List ℕ) (place : Plac
     front = scanned.front ++ t.text;
     rest = after;
     many = rw (length-append ts (t ∷ [])) (omega (arith, many));
-    read = token ts scanned.front rest after t scanned.read m (at ∙ scanned.here) }
+    read = token ts scanned.front rest after t scanned.read m (at ∙ scanned.here);
+  }
 
 pub scanned-end : (bytes : List ℕ) (ts : List RdlToken) (place : Place) → IsScanned bytes ts [] place → IsTokensOf bytes (record { list = ts; end = place })
 scanned-end bytes ts place scanned =

@@ -20,4 +20,4 @@ based (q ∷ letter ∷ digits) h = (omega arith, base-positive (base_of letter)
 pub sized-rest : (text : List ℕ) → is_sized text ≡ true → (2 ≤ length (drop (prefix_len is_in_size text) text)) × (1 ≤ base_of (get_or (drop (prefix_len is_in_size text) text) 1 0))
 sized-rest text h = based (drop (prefix_len is_in_size text) text)
     (let e : drop (prefix_len is_in_size text + 1) text ≡ drop 1 (drop (prefix_len is_in_size text) text) = sym (drop-drop 1 (prefix_len is_in_size text) text) in
-     rw e at (and_parts (is_size (size_of text)) (is_digits (base_after_size (after_size text)) (drop 1 (after_size text))) h).1)
+    rw e at (and_parts (is_size (size_of text)) (is_digits (base_after_size (after_size text)) (drop 1 (after_size text))) h).1)

@@ -1,8 +1,7 @@
 //! Refusals of a description.
 
-use std::alloc::AllocError;
-
 use bit_base::place::Place;
+use std::alloc::AllocError;
 use thiserror::Error;
 
 /// What is wrong with a description. The variants stand in the order of their numbers, 101 to 109.

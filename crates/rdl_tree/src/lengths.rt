@@ -6,7 +6,9 @@ ghost use Rattle.rdl_tree.specs.Lengths.{more_digits, digits_len, behind, hexade
 ghost use Rattle.rdl_tree.specs.Spelling.{is_word_byte, is_in_line};
 ghost use Rattle.rdl_tree.specs.Closing.{closes};
 
-use crate::bytes::{base_of, is_blank, is_digit, is_letter, is_mark_byte, is_mark_pair, is_word_byte};
+use crate::bytes::{
+    base_of, is_blank, is_digit, is_letter, is_mark_byte, is_mark_pair, is_word_byte,
+};
 use crate::numbers::is_size;
 use crate::piece::Piece;
 use crate::token::RdlTokenKind;

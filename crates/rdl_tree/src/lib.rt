@@ -2,12 +2,14 @@
 #![tactic(auto)]
 
 mod bytes;
+pub mod fault;
 mod lengths;
 mod numbers;
-pub mod fault;
 pub mod piece;
 mod places;
 pub mod reserved;
 pub mod scan;
+#[cfg(test)]
+mod tests;
 pub mod token;
 pub mod tree;

@@ -5,17 +5,16 @@ ghost use Rattle.bit_base.specs.declared.place.Place.{Place};
 ghost use Rattle.rdl_tree.specs.Spelling.{is_spelled, token_fits, token_value};
 ghost use Rattle.rdl_tree.specs.Scan.{IsTokensOf, Refuses, OneAnswer, IsNoToken, whole};
 
-use bit_base::place::Place;
-use bit_base::text::text_of;
-use sqlite_items::Items;
-use std::alloc::Global;
-
 use crate::fault::{RdlCode, RdlFault};
 use crate::lengths::piece_at;
 use crate::numbers::number_value;
 use crate::piece::Piece;
 use crate::places::moved;
 use crate::token::{RdlToken, RdlTokenKind, RdlTokens};
+use bit_base::place::Place;
+use bit_base::text::text_of;
+use sqlite_items::Items;
+use std::alloc::Global;
 
 /// The longest description that is read, in bytes.
 pub const MOST_BYTES: usize = 1_048_576;
@@ -58,7 +57,12 @@ fn token_value(kind: RdlTokenKind, text: &[u8]) -> Option<u64>
 }
 
 /// The token of this kind and text.
-fn token_of(alloc: Global, kind: RdlTokenKind, text: &[u8], place: Place) -> Result<RdlToken, RdlFault>
+fn token_of(
+    alloc: Global,
+    kind: RdlTokenKind,
+    text: &[u8],
+    place: Place,
+) -> Result<RdlToken, RdlFault>
     requires { is_spelled kind text.now ≡ true }
     ensures ok { IfOk result (λ t. (t.kind ≡ kind) × (t.text ≡ text.now) × (t.place ≡ place)) }
     ensures err { IfErr result (IsNoToken kind text.now place) }
@@ -122,5 +126,4 @@ pub fn scan_rdl(alloc: Global, bytes: &[u8]) -> Result<RdlTokens, RdlFault>
 /// other.
 pub fn one_answer()
     ensures { OneAnswer }
-{
-}
+{}

@@ -3,12 +3,11 @@
 ghost use Rattle.std.specs.Prelude.{◌≡◌, true};
 ghost use Rattle.rdl_tree.specs.Spelling.{is_token};
 
+use crate::reserved::is_reserved;
 use bit_base::place::Place;
 use bit_base::text::Text;
 use sqlite_items::Items;
 use std::alloc::{AllocError, Global};
-
-use crate::reserved::is_reserved;
 
 /// What kind of token a text is.
 #[derive(Clone, Copy, Debug, PartialEq, Eq, Drop)]

@@ -11,13 +11,13 @@ pub loop-at-preserved : goal.loop-at-preserved
 loop-at-preserved c =
     let is = sym c.is_digit.ensures in
     elim c.if-is_digit.branch [
-      then-is_digit w ↦ record {
+      | then-is_digit w ↦ record {
         found = rw w.len-is (sym (settled-digit c.args.base c.loop-at.at c.loop-at.len c.args.bytes.now c.loop-at-test.true (is ∙ w.if-is_digit.true)) ∙ c.loop-at.invariant.found);
-        within = rw w.len-is (omega arith)
+        within = rw w.len-is (omega arith);
       }
-    | else-is_digit+else-byte-ne95 w ↦ record {
+      | else-is_digit+else-byte-ne95 w ↦ record {
         found = rw w.len-is (sym (settled-gap c.args.base c.loop-at.at c.loop-at.len c.args.bytes.now c.loop-at-test.true (is ∙ w.if-is_digit.false) w.if-byte-ne95.false) ∙ c.loop-at.invariant.found);
-        within = rw w.len-is (omega arith)
+        within = rw w.len-is (omega arith);
       }
     ]
 

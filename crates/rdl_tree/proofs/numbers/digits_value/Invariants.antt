@@ -6,4 +6,5 @@ use Rattle.rdl_tree.proofs.numbers.digits_value.Given as goal
 abbrev pub invariant-loop-byte : goal.invariant-loop-byte
 invariant-loop-byte l = record {
   small : l.value < 2 ^ 64;
-  same : fold (with_digit l.base) l.value (drop l.byte-index l.digits) ≡ fold (with_digit l.base) 0 l.digits }
+  same : fold (with_digit l.base) l.value (drop l.byte-index l.digits) ≡ fold (with_digit l.base) 0 l.digits;
+}
