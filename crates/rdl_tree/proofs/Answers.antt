@@ -1,14 +1,13 @@
 -- That the bytes determine what a scan answers, but for want of memory.
-use Rattle.std.proofs.Common.{◌≡◌, ◌≢◌, ℕ, ◌+◌, ◌<◌, ◌≤◌, ◌⊎◌, inl, inr, Bool, true, false, List, [], ◌∷◌, ◌++◌, length, take, drop, refl, sym, ◌∙◌, ap, subst, arith, append_assoc, length-append}
-use Rattle.std.specs.Prelude.{Option, Some, None, ◌==◌, ◌&&◌, Result, Ok, Err}
-use Rattle.std.proofs.lemmas.Bool.{true≢false, false≢true, and_parts, eqb-true}
+use Rattle.std.proofs.Common.{◌≡◌, ◌≢◌, ℕ, ◌<◌, ◌≤◌, ◌⊎◌, inl, inr, true, List, [], ◌∷◌, ◌++◌, length, take, drop, refl, sym, ◌∙◌, ap, subst, arith, append_assoc, length-append}
+use Rattle.std.specs.Prelude.{◌==◌, ◌&&◌, Result, Ok, Err}
+use Rattle.std.proofs.lemmas.Bool.{true≢false, and_parts, eqb-true}
 use Rattle.std.proofs.Math.Bool.{Bool-set}
 use Rattle.std.proofs.lemmas.List.{append-nil, take_at, drop_at}
-use Rattle.std.proofs.lemmas.Option.{none-some, same_Some}
+use Rattle.std.proofs.lemmas.Option.{none-some}
 use Rattle.bit_base.specs.declared.place.Place.{Place}
-use Rattle.rdl_tree.specs.declared.scan.TheConstants.{MOST_BYTES, MOST_TOKENS}
 use Rattle.rdl_tree.specs.declared.token.RdlTokenKind.{RdlTokenKind}
-use Rattle.rdl_tree.specs.declared.token.RdlTokenKind.TheVariants.{Word, Num, Str, Mark}
+use Rattle.rdl_tree.specs.declared.token.RdlTokenKind.TheVariants.{Word, Num}
 use Rattle.rdl_tree.specs.declared.token.RdlToken.{RdlToken}
 use Rattle.rdl_tree.specs.declared.token.RdlTokens.{RdlTokens}
 use Rattle.rdl_tree.specs.declared.piece.Piece.{Piece}
@@ -17,8 +16,8 @@ use Rattle.rdl_tree.specs.declared.fault.RdlCode.TheVariants.{RdlByte, RdlSize}
 use Rattle.rdl_tree.specs.declared.fault.RdlFault.{RdlFault}
 use Rattle.rdl_tree.specs.declared.fault.RdlFault.TheVariants.{NoMemory, At}
 use Rattle.rdl_tree.specs.Spelling.{is_spelled, is_token, token_fits, token_value, number_fits}
-use Rattle.rdl_tree.specs.Pieces.{is_piece, IsLongest, BeginsNone, IsBad, begins_none, too_large, Reads, start, gap, token, place_after}
-use Rattle.rdl_tree.specs.Scan.{IsTokensOf, IsBadAt, HasManyTokens, Refuses, Answers, OneAnswer, whole}
+use Rattle.rdl_tree.specs.Pieces.{IsLongest, IsBad, begins_none, too_large, Reads, start, gap, token, place_after}
+use Rattle.rdl_tree.specs.Scan.{most_bytes, most_tokens, IsTokensOf, IsBadAt, HasManyTokens, Answers, OneAnswer, whole}
 use Rattle.rdl_tree.proofs.Longest.{first_piece, fronts, same_piece}
 
 -- No piece begins where nothing is left.
@@ -169,7 +168,7 @@ bad-run front rest _ e bad (takes t after m at runs) = absurd (bad-no_token rest
 data Says (bytes : List ℕ) : Result RdlTokens RdlFault → Type 0 where
   says_tokens : (tokens : RdlTokens) → IsTokensOf bytes tokens → Says bytes (Ok tokens)
   says_bad : (place : Place) → IsBadAt bytes place → Says bytes (Err (At RdlByte place))
-  says_large : (place : Place) → place ≡ whole → ((MOST_BYTES < length bytes) ⊎ HasManyTokens bytes) → Says bytes (Err (At RdlSize place))
+  says_large : (place : Place) → place ≡ whole → ((most_bytes < length bytes) ⊎ HasManyTokens bytes) → Says bytes (Err (At RdlSize place))
 
 says : (bytes : List ℕ) (a : Result RdlTokens RdlFault) → Answers bytes a → a ≢ Err NoMemory → Says bytes a
 says bytes (Ok tokens) h some = says_tokens tokens h
@@ -185,7 +184,7 @@ bad-place-run : (bytes : List ℕ) (place : Place) (h : IsBadAt bytes place) →
 bad-place-run bytes place h = rw (append-nil h.ts, sym h.here) at (join bytes h.ts h.front h.rest [] (Bad (place_after h.front)) h.read (stopped h.bad))
 
 -- A reading to the end of at most so many tokens: the text isn't too large.
-no-large : (bytes : List ℕ) (ts : List RdlToken) (e : Ending) → Runs [] bytes ts e → length bytes ≤ MOST_BYTES → length ts ≤ MOST_TOKENS → ((MOST_BYTES < length bytes) ⊎ HasManyTokens bytes) → ⊥
+no-large : (bytes : List ℕ) (ts : List RdlToken) (e : Ending) → Runs [] bytes ts e → length bytes ≤ most_bytes → length ts ≤ most_tokens → ((most_bytes < length bytes) ⊎ HasManyTokens bytes) → ⊥
 no-large bytes ts e runs small few (inl long) = omega (arith, long, small)
 no-large bytes ts e runs small few (inr many) =
     let c = continue bytes many.ts many.front many.rest ts e many.read runs in

@@ -1,19 +1,18 @@
 -- That the piece that the code finds is the longest match, and that it finds none only where none begins.
-use Rattle.std.proofs.Common.{◌≡◌, ℕ, zero, suc, ◌+◌, ◌-◌, ◌<◌, ◌≤◌, ◌⊎◌, inl, inr, Bool, true, false, List, [], ◌∷◌, ◌++◌, length, take, drop, cond, refl, sym, ◌∙◌, ap, arith, one-add}
-use Rattle.std.specs.Prelude.{◌&&◌, ◌||◌, ◌==◌, nat_lt, nat_le, not, Option, Some, None, option_map, codes}
-use Rattle.std.specs.List.{list_all, list_any, prefix_len}
+use Rattle.std.proofs.Common.{◌≡◌, ℕ, zero, suc, ◌+◌, ◌-◌, ◌<◌, ◌≤◌, ◌⊎◌, inl, inr, Bool, true, false, List, [], ◌∷◌, ◌++◌, length, take, drop, cond, refl, sym, ◌∙◌, ap, arith}
+use Rattle.std.specs.Prelude.{◌&&◌, ◌||◌, ◌==◌, nat_le, not, Option, Some, None, option_map, codes}
+use Rattle.std.specs.List.{list_all, prefix_len}
 use Rattle.std.proofs.lemmas.List.{take-append-drop, length-take-le}
 use Rattle.std.proofs.lemmas.List.Sums.{prefix_len-le-length}
-use Rattle.std.proofs.lemmas.Bool.{and_parts, and_from, or_cases, lt-ltb, le-ltb, ltb-true, ltb-false, leb-true, false≢true, true≢false, eqb-true, eq-eqb, not-true}
+use Rattle.std.proofs.lemmas.Bool.{and_parts, and_from, or_cases, ltb-true, leb-true, false≢true, eqb-true, not-true}
 use Rattle.std.proofs.Math.Bool.{or-true}
 use Rattle.std.proofs.lemmas.Option.{same_Some, none-some}
-use Rattle.rdl_tree.specs.declared.token.RdlTokenKind.{RdlTokenKind}
 use Rattle.rdl_tree.specs.declared.token.RdlTokenKind.TheVariants.{Word, Num, Str, Mark}
 use Rattle.rdl_tree.specs.declared.piece.Piece.{Piece}
 use Rattle.rdl_tree.specs.declared.piece.Piece.TheVariants.{Gap, Token}
 use Rattle.rdl_tree.specs.Spelling.{is_nil, is_among, is_letter, digit_of, is_digit, is_word_byte, is_word, ends_in_digit, is_digits, is_hexadecimal, is_size, size_of, is_in_size, after_size, base_after_size, is_sized, is_number, ends_at_first, closes_string, is_string, is_mark_byte, is_mark_pair, is_mark, is_blank, is_in_line, is_one_blank, is_line_comment, is_block_comment, closes_comment, is_gap}
 use Rattle.rdl_tree.specs.Lengths.{digits_len, number_len, closing_len, string_len, mark_len, comment_len, gap_len, piece_of, piece_len, found_piece, piece_by, piece_at}
-use Rattle.rdl_tree.specs.Pieces.{is_piece, IsLongest, BeginsNone, FindsPiece}
+use Rattle.rdl_tree.specs.Pieces.{is_piece, FindsPiece}
 use Rattle.rdl_tree.proofs.Digits.{take_one}
 use Rattle.rdl_tree.proofs.NumberLengths.{number_len-covers, number_len-spelled, number_len-some, size-digits}
 

@@ -1,6 +1,6 @@
 -- What the loops of src/lengths.rt keep.
-use Rattle.std.proofs.Common.{◌≡◌, ℕ, zero, suc, ◌+◌, ◌<◌, ◌≤◌, Bool, true, false, List, [], ◌∷◌, length, drop, get_or, cond, refl, sym, ◌∙◌, ap, arith, add-one}
-use Rattle.std.specs.Prelude.{nat_lt, ◌==◌, ◌&&◌, Option, Some, None, option_map}
+use Rattle.std.proofs.Common.{◌≡◌, ℕ, ◌+◌, ◌<◌, ◌≤◌, Bool, true, false, List, ◌∷◌, length, drop, get_or, cond, refl, ap, arith, add-one}
+use Rattle.std.specs.Prelude.{nat_lt, Option, Some, None, option_map}
 use Rattle.std.proofs.Math.Seq.{drop-cons}
 use Rattle.std.proofs.Math.ListN.{drop_of_length-le}
 use Rattle.std.proofs.lemmas.Bool.{lt-ltb, eq-eqb, ne_eqb}

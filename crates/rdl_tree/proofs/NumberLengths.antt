@@ -1,15 +1,15 @@
 -- That the number that the code finds is the longest.
-use Rattle.std.proofs.Common.{◌≡◌, ℕ, zero, suc, ◌+◌, ◌<◌, ◌≤◌, ◌⊎◌, inl, inr, Bool, true, false, List, [], ◌∷◌, ◌++◌, length, take, drop, get_or, max, cond, refl, sym, ◌∙◌, ap, arith, add-one, one-add, add-zero, append_assoc, length-append}
+use Rattle.std.proofs.Common.{◌≡◌, ℕ, suc, ◌+◌, ◌<◌, ◌≤◌, inl, inr, Bool, true, false, List, [], ◌∷◌, ◌++◌, length, take, drop, get_or, max, cond, refl, sym, ◌∙◌, ap, arith, add-zero, append_assoc, length-append}
 use Rattle.std.specs.Prelude.{◌&&◌, ◌||◌, ◌==◌, nat_lt, nat_le, not}
 use Rattle.std.specs.List.{list_all, prefix_len}
 use Rattle.std.proofs.Math.Seq.{take-append-add}
 use Rattle.std.proofs.lemmas.List.{take-append-drop, drop-drop, take_at, drop_at, length-take-le, length-drop, get_or-drop}
-use Rattle.std.proofs.lemmas.List.Sums.{prefix_len-le-length, prefix_len_stops}
-use Rattle.std.proofs.lemmas.Bool.{and_parts, and_from, or_cases, cases_lt, lt-ltb, le-ltb, ltb-true, ltb-false, false≢true, true≢false, eqb-true, eq-eqb, not-false}
+use Rattle.std.proofs.lemmas.List.Sums.{prefix_len_stops}
+use Rattle.std.proofs.lemmas.Bool.{and_parts, and_from, or_cases, cases_lt, lt-ltb, ltb-true, false≢true, eqb-true, not-false}
 use Rattle.std.proofs.Math.Bool.{or-true}
-use Rattle.rdl_tree.specs.Spelling.{digit_of, is_digit, ends_in_digit, is_digits, is_hexadecimal, is_in_size, size_of, after_size, base_of, base_after_size, is_size, is_sized, is_number, digits_value}
+use Rattle.rdl_tree.specs.Spelling.{is_digit, ends_in_digit, is_digits, is_hexadecimal, is_in_size, size_of, after_size, base_of, base_after_size, is_size, is_sized, is_number, digits_value}
 use Rattle.rdl_tree.specs.Lengths.{digits_len, behind, hexadecimal_len, based_len, sized_len, number_len}
-use Rattle.rdl_tree.proofs.Digits.{digits_len-within, digits_len-covers, digits_len-digits, digits_len-stops, take_one}
+use Rattle.rdl_tree.proofs.Digits.{digits_len-within, digits_len-covers, digits_len-digits, digits_len-stops}
 
 -- Digits aren't empty.
 digits-some : (base : ℕ) (bs : List ℕ) → is_digits base bs ≡ true → 0 < length bs

@@ -1,10 +1,9 @@
 -- What the loop of a scan keeps, and what its ends show.
-use Rattle.std.proofs.Common.{◌≡◌, ◌≢◌, ℕ, ◌+◌, ◌<◌, ◌≤◌, ◌⊎◌, inl, inr, Bool, true, false, List, [], ◌∷◌, ◌++◌, length, take, drop, refl, sym, ◌∙◌, ap, arith, append_assoc, length-append}
-use Rattle.std.specs.Prelude.{Option, Some, None, ◌==◌}
+use Rattle.std.proofs.Common.{◌≡◌, ◌≢◌, ℕ, ◌+◌, ◌<◌, ◌≤◌, true, false, List, [], ◌∷◌, ◌++◌, length, take, drop, refl, sym, ◌∙◌, ap, arith, append_assoc, length-append}
+use Rattle.std.specs.Prelude.{Option, ◌==◌}
 use Rattle.std.proofs.lemmas.Bool.{true≢false, eqb-true, eqb-false}
 use Rattle.std.proofs.lemmas.List.{append-nil, nil_from_length}
 use Rattle.bit_base.specs.declared.place.Place.{Place}
-use Rattle.rdl_tree.specs.declared.scan.TheConstants.{MOST_BYTES, MOST_TOKENS}
 use Rattle.rdl_tree.specs.declared.token.RdlTokenKind.{RdlTokenKind}
 use Rattle.rdl_tree.specs.declared.token.RdlTokenKind.TheVariants.{Word, Num, Str, Mark}
 use Rattle.rdl_tree.specs.declared.token.RdlToken.{RdlToken}
@@ -13,8 +12,8 @@ use Rattle.rdl_tree.specs.declared.piece.Piece.TheVariants.{Gap, Token}
 use Rattle.rdl_tree.specs.Spelling.{token_fits}
 use Rattle.rdl_tree.specs.Lengths.{piece_at}
 use Rattle.rdl_tree.specs.Places.{moved}
-use Rattle.rdl_tree.specs.Pieces.{IsLongest, BeginsNone, FindsPiece, IsBad, begins_none, too_large, Reads, start, gap, token, place_after}
-use Rattle.rdl_tree.specs.Scan.{IsTokensOf, IsBadAt, HasManyTokens, IsNoToken, Refuses}
+use Rattle.rdl_tree.specs.Pieces.{IsLongest, BeginsNone, FindsPiece, begins_none, too_large, Reads, start, gap, token, place_after}
+use Rattle.rdl_tree.specs.Scan.{most_bytes, most_tokens, IsTokensOf, IsBadAt, HasManyTokens, IsNoToken, Refuses}
 use Rattle.rdl_tree.specs.declared.fault.RdlCode.TheVariants.{RdlByte}
 use Rattle.rdl_tree.specs.declared.fault.RdlFault.{RdlFault}
 use Rattle.rdl_tree.specs.declared.fault.RdlFault.TheVariants.{NoMemory, At}
@@ -32,13 +31,13 @@ pub record IsScanned (bytes : List ℕ) (ts : List RdlToken) (rest : List ℕ) (
   pub front : List ℕ
   pub read : Reads bytes ts front rest
   pub here : place ≡ place_after front
-  pub few : length ts ≤ MOST_TOKENS
-  pub small : length bytes ≤ MOST_BYTES
+  pub few : length ts ≤ most_tokens
+  pub small : length bytes ≤ most_bytes
 
 pub found_at : (rest : List ℕ) (result found : Option (Piece × ℕ)) → result ≡ piece_at rest → result ≡ found → FindsPiece rest found
 found_at rest result found e f = rw (sym f, e) (piece_at-finds rest)
 
-pub scanned-start : (bytes : List ℕ) → length bytes ≤ MOST_BYTES → IsScanned bytes [] bytes (record { file = 0; line = 1; column = 1 })
+pub scanned-start : (bytes : List ℕ) → length bytes ≤ most_bytes → IsScanned bytes [] bytes (record { file = 0; line = 1; column = 1 })
 unfolding place_after
 scanned-start bytes h = record { front = []; read = start; here = refl; few = omega arith; small = h }
 
@@ -64,7 +63,7 @@ module _ (bytes : List ℕ) (ts : List RdlToken) (rest : List ℕ) (place : Plac
     small = scanned.small;
   }
 
-  pub scanned-token : (t : RdlToken) (after : List ℕ) → IsLongest rest (Token t.kind) t.text after → t.place ≡ place → length ts < MOST_TOKENS → IsScanned bytes (ts ++ t ∷ []) after (moved place t.text)
+  pub scanned-token : (t : RdlToken) (after : List ℕ) → IsLongest rest (Token t.kind) t.text after → t.place ≡ place → length ts < most_tokens → IsScanned bytes (ts ++ t ∷ []) after (moved place t.text)
   scanned-token t after m at few = record {
     front = scanned.front ++ t.text;
     read = token ts scanned.front rest after t scanned.read m (at ∙ scanned.here);
@@ -100,7 +99,7 @@ module _ (bytes : List ℕ) (ts : List RdlToken) (rest : List ℕ) (place : Plac
   scanned-large Str text after m large = absurd (true≢false large)
   scanned-large Mark text after m large = absurd (true≢false large)
 
-  pub scanned-many : (t : RdlToken) (after : List ℕ) → IsLongest rest (Token t.kind) t.text after → t.place ≡ place → MOST_TOKENS ≤ length ts → HasManyTokens bytes
+  pub scanned-many : (t : RdlToken) (after : List ℕ) → IsLongest rest (Token t.kind) t.text after → t.place ≡ place → most_tokens ≤ length ts → HasManyTokens bytes
   scanned-many t after m at many = record {
     small = scanned.small;
     ts = ts ++ t ∷ [];

@@ -1,10 +1,9 @@
 -- The parts of a number with a size.
-use Rattle.std.proofs.Common.{◌≡◌, ℕ, zero, suc, ◌+◌, ◌<◌, ◌≤◌, Bool, true, false, List, [], ◌∷◌, length, take, drop, get_or, refl, sym, ◌∙◌, ap, arith}
-use Rattle.std.specs.Prelude.{◌&&◌, nat_lt, nat_le}
+use Rattle.std.proofs.Common.{◌≡◌, ℕ, ◌+◌, ◌≤◌, true, List, [], ◌∷◌, length, drop, get_or, sym, arith}
 use Rattle.std.specs.List.{prefix_len}
 use Rattle.std.proofs.lemmas.List.{drop-drop}
 use Rattle.std.proofs.lemmas.Bool.{and_parts, ltb-true, false≢true}
-use Rattle.rdl_tree.specs.Spelling.{is_in_size, digit_of, is_digit, is_digits, ends_in_digit, base_of, base_after_size, size_of, after_size, is_sized, is_size, digits_value}
+use Rattle.rdl_tree.specs.Spelling.{is_in_size, digit_of, is_digit, is_digits, ends_in_digit, base_of, base_after_size, size_of, after_size, is_sized, is_size}
 
 -- Where there are digits, the base isn't 0.
 pub base-positive : (base : ℕ) (digits : List ℕ) → is_digits base digits ≡ true → 1 ≤ base

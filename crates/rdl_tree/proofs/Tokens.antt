@@ -1,6 +1,6 @@
 -- When a text is a token.
 use Rattle.std.proofs.Common.{◌≡◌, ℕ, Bool, true, false, List, cond, refl, sym}
-use Rattle.std.specs.Prelude.{Option, Some, None, ◌&&◌, ◌==◌}
+use Rattle.std.specs.Prelude.{Some, None}
 use Rattle.std.proofs.lemmas.Bool.{and_from, eq-eqb}
 use Rattle.std.proofs.lemmas.Option.{same_Some, none-some}
 use Rattle.rdl_tree.specs.declared.token.RdlTokenKind.{RdlTokenKind}

@@ -1,5 +1,5 @@
 -- The value of digits only grows.
-use Rattle.std.proofs.Common.{◌≡◌, ℕ, zero, suc, ◌+◌, ◌*◌, ◌<◌, ◌≤◌, true, false, List, [], ◌∷◌, length, drop, get_or, cond, refl, arith}
+use Rattle.std.proofs.Common.{◌≡◌, ℕ, ◌+◌, ◌*◌, ◌<◌, ◌≤◌, true, false, List, [], ◌∷◌, length, drop, get_or, cond, arith}
 use Rattle.std.specs.Prelude.{◌==◌, fold}
 use Rattle.rdl_tree.specs.Spelling.{digit_of, with_digit, digits_value}
 use Rattle.rdl_tree.proofs.Loops.{drop_at}

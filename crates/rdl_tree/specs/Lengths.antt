@@ -1,5 +1,5 @@
 -- How long the piece in front of a text is. That this is the longest match is proved in proofs/Longest.
-use Rattle.std.specs.Prelude.{ℕ, ◌+◌, Bool, true, false, ◌&&◌, ◌||◌, ◌==◌, nat_lt, if◌then◌else◌, List, [], ◌∷◌, take, drop, length, max, Option, Some, None, option_map, option_and_then}
+use Rattle.std.specs.Prelude.{ℕ, ◌+◌, Bool, ◌&&◌, ◌||◌, ◌==◌, nat_lt, if◌then◌else◌, List, [], ◌∷◌, take, drop, max, Option, Some, None, option_map}
 use Rattle.std.specs.List.{prefix_len}
 use Rattle.rdl_tree.specs.declared.token.RdlTokenKind.TheVariants.{Word, Num, Str, Mark}
 use Rattle.rdl_tree.specs.declared.piece.Piece.{Piece}

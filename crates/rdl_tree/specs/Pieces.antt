@@ -1,5 +1,5 @@
 -- The pieces of a description, and its tokens (SystemRDL 2.0, clause 4).
-use Rattle.std.specs.Prelude.{◌≡◌, ◌≢◌, ◌≤◌, ◌<◌, ◌+◌, ◌⊎◌, ℕ, Bool, true, false, List, [], ◌∷◌, ◌++◌, length, take, drop, Option, Some, None, reverse, count_by, ◌==◌}
+use Rattle.std.specs.Prelude.{◌≡◌, ◌≢◌, ◌≤◌, ◌<◌, ◌+◌, ℕ, Bool, true, false, List, [], ◌∷◌, ◌++◌, length, take, drop, Option, Some, None, reverse, count_by, ◌==◌}
 use Rattle.std.specs.List.{prefix_len}
 use Rattle.bit_base.specs.declared.place.Place.{Place}
 use Rattle.rdl_tree.specs.declared.token.RdlTokenKind.TheVariants.{Num}

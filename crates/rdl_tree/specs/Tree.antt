@@ -1,5 +1,5 @@
 -- A tree's tokens, part by part, and which trees fit the grammar (SystemRDL 2.0, annex "Formal syntax", in the profile that src/tree.rt lists).
-use Rattle.std.specs.Prelude.{◌≡◌, Bool, true, false, ◌&&◌, not, ◌++◌, ℕ, List, [], ◌∷◌, map, Option, Some, None, is_some, bytes_eq, codes}
+use Rattle.std.specs.Prelude.{◌≡◌, Bool, true, ◌&&◌, not, ◌++◌, ℕ, List, [], ◌∷◌, map, Option, Some, None, is_some, bytes_eq, codes}
 use Rattle.std.specs.List.{list_all, list_any}
 use denote.Enum.Bare.{sameb}
 use Rattle.rdl_tree.specs.contracts.token.RdlTokenKind.{the_type}

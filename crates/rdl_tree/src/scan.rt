@@ -3,7 +3,7 @@
 ghost use Rattle.std.specs.Prelude.{◌≡◌, ◌<◌, true, false, length, IfOk, IfErr, Some, None, Err, if◌then◌else◌};
 ghost use Rattle.bit_base.specs.declared.place.Place.{Place};
 ghost use Rattle.rdl_tree.specs.Spelling.{is_spelled, token_fits, token_value};
-ghost use Rattle.rdl_tree.specs.Scan.{IsTokensOf, Refuses, OneAnswer, IsNoToken, whole};
+ghost use Rattle.rdl_tree.specs.Scan.{most_bytes, IsTokensOf, Refuses, OneAnswer, IsNoToken, whole};
 
 use crate::fault::{RdlCode, RdlFault};
 use crate::lengths::piece_at;
@@ -88,7 +88,7 @@ fn token_of(
 /// - 108 at 0:0 where the token after the first 100,000 can be read.
 pub fn scan_rdl(alloc: Global, bytes: &[u8]) -> Result<RdlTokens, RdlFault>
     ensures tokens { IfOk result (IsTokensOf bytes.now) }
-    ensures too_long { MOST_BYTES < length bytes.now → result ≡ Err (RdlFault.At RdlCode.RdlSize whole) }
+    ensures too_long { most_bytes < length bytes.now → result ≡ Err (RdlFault.At RdlCode.RdlSize whole) }
     ensures refused { IfErr result (Refuses bytes.now) }
 {
     if bytes.len() > MOST_BYTES {

@@ -1,6 +1,6 @@
-use Rattle.std.proofs.Common.{sym, ◌∙◌, ◌≤◌, refl}
+use Rattle.std.proofs.Common.{sym, ◌≤◌, refl}
 use Rattle.std.proofs.lemmas.Bool.{le-ltb}
-use Rattle.rdl_tree.specs.Spelling.{digits_value, with_digit}
+use Rattle.rdl_tree.specs.Spelling.{digits_value}
 use Rattle.rdl_tree.proofs.Values.{digits_value-reaches}
 use Rattle.rdl_tree.proofs.numbers.digits_value.Goals as goal
 

@@ -1,4 +1,4 @@
-use Rattle.std.proofs.Common.{◌≡◌, ◌≤◌, ◌<◌, length, drop, arith}
+use Rattle.std.proofs.Common.{◌<◌, length, drop, arith}
 use Rattle.std.specs.List.{prefix_len}
 use Rattle.rdl_tree.specs.Spelling.{is_in_size}
 use Rattle.rdl_tree.proofs.Sizes.{sized-rest}

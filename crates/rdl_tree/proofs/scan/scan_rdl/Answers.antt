@@ -1,8 +1,7 @@
-use Rattle.std.proofs.Common.{◌≡◌, ◌<◌, ◌≤◌, ℕ, List, [], length, take, drop, true, Some, sym, ◌∙◌, ap, inl, inr, refl, arith}
+use Rattle.std.proofs.Common.{◌<◌, length, Some, sym, ◌∙◌, ap, inr, refl, arith}
 use Rattle.std.specs.Prelude.{None}
-use Rattle.rdl_tree.specs.Pieces.{FindsPiece, IsLongest}
 use Rattle.rdl_tree.specs.declared.piece.Piece.TheVariants.{Gap, Token}
-use Rattle.rdl_tree.proofs.Scanning.{IsScanned, found_at, longest_at, some_left, none_left, not_token, scanned-start, scanned-line, scanned-column, scanned-gap, scanned-token, scanned-none, scanned-fault, scanned-many, scanned-end}
+use Rattle.rdl_tree.proofs.Scanning.{found_at, longest_at, some_left, none_left, not_token, scanned-start, scanned-line, scanned-column, scanned-gap, scanned-token, scanned-none, scanned-fault, scanned-many, scanned-end}
 use Rattle.rdl_tree.proofs.scan.scan_rdl.Goals as goal
 use Rattle.rdl_tree.proofs.scan.scan_rdl.Goals.{in-Token+in-Ok+else-len-ge-MOST_TOKENS+in_ok-push, in_default-piece}
 
