@@ -12,9 +12,14 @@ use Rattle.rdl_tree.specs.declared.piece.Piece.{Piece}
 use Rattle.rdl_tree.specs.declared.piece.Piece.TheVariants.{Gap, Token}
 use Rattle.rdl_tree.specs.Spelling.{is_nil, is_among, is_letter, digit_of, is_digit, is_word_byte, is_word, ends_in_digit, is_digits, is_hexadecimal, is_size, size_of, is_in_size, after_size, base_after_size, is_sized, is_number, ends_at_first, closes_string, is_string, is_mark_byte, is_mark_pair, is_mark, is_blank, is_in_line, is_one_blank, is_line_comment, is_block_comment, closes_comment, is_gap}
 use Rattle.rdl_tree.specs.Lengths.{digits_len, number_len, closing_len, string_len, mark_len, comment_len, gap_len, piece_of, piece_len, found_piece, piece_by, piece_at}
-use Rattle.rdl_tree.specs.Pieces.{is_piece, FindsPiece}
+use Rattle.rdl_tree.specs.Pieces.{is_piece, IsLongest, BeginsNone}
 use Rattle.rdl_tree.proofs.Digits.{take_one}
 use Rattle.rdl_tree.proofs.NumberLengths.{number_len-covers, number_len-spelled, number_len-some, size-digits}
+
+-- What a search for the piece in front of `rest` finds: none, or a piece and its length.
+abbrev pub FindsPiece : List ℕ → Option (Piece × ℕ) → Type 0
+FindsPiece rest None = BeginsNone rest
+FindsPiece rest (Some found) = (0 < found.1) × (found.1 ≤ length rest) × IsLongest rest found.0 (take found.1 rest) (drop found.1 rest)
 
 -- A length that is found is at least this one.
 abbrev pub Covers : Option ℕ → ℕ → Type 0

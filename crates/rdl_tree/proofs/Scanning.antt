@@ -12,12 +12,12 @@ use Rattle.rdl_tree.specs.declared.piece.Piece.TheVariants.{Gap, Token}
 use Rattle.rdl_tree.specs.Spelling.{token_fits}
 use Rattle.rdl_tree.specs.Lengths.{piece_at}
 use Rattle.rdl_tree.specs.Places.{moved}
-use Rattle.rdl_tree.specs.Pieces.{IsLongest, BeginsNone, FindsPiece, begins_none, too_large, Reads, start, gap, token, place_after}
+use Rattle.rdl_tree.specs.Pieces.{IsLongest, BeginsNone, begins_none, too_large, Reads, start, gap, token, place_after}
 use Rattle.rdl_tree.specs.Scan.{most_bytes, most_tokens, IsTokensOf, IsBadAt, HasManyTokens, IsNoToken, Refuses}
 use Rattle.rdl_tree.specs.declared.fault.RdlCode.TheVariants.{RdlByte}
 use Rattle.rdl_tree.specs.declared.fault.RdlFault.{RdlFault}
 use Rattle.rdl_tree.specs.declared.fault.RdlFault.TheVariants.{NoMemory, At}
-use Rattle.rdl_tree.proofs.Longest.{piece_at-finds}
+use Rattle.rdl_tree.proofs.Longest.{FindsPiece, piece_at-finds}
 use Rattle.rdl_tree.proofs.PlaceSteps.{moved-after, line-within, column-within}
 
 -- The bytes are those that are read and those that are left.

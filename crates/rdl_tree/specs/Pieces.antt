@@ -1,5 +1,5 @@
 -- The pieces of a description, and its tokens (SystemRDL 2.0, clause 4).
-use Rattle.std.specs.Prelude.{◌≡◌, ◌≢◌, ◌≤◌, ◌<◌, ◌+◌, ℕ, Bool, true, false, List, [], ◌∷◌, ◌++◌, length, take, drop, Option, Some, None, reverse, count_by, ◌==◌}
+use Rattle.std.specs.Prelude.{◌≡◌, ◌≢◌, ◌≤◌, ◌+◌, ℕ, Bool, true, false, List, [], ◌∷◌, ◌++◌, length, reverse, count_by, ◌==◌}
 use Rattle.std.specs.List.{prefix_len}
 use Rattle.bit_base.specs.declared.place.Place.{Place}
 use Rattle.rdl_tree.specs.declared.token.RdlTokenKind.TheVariants.{Num}
@@ -21,11 +21,6 @@ pub record IsLongest (rest : List ℕ) (piece : Piece) (text after : List ℕ) :
 -- No front of `rest` is a token of any kind, a blank or a comment.
 abbrev pub BeginsNone : List ℕ → Type 0
 BeginsNone rest = (piece : Piece) (text more : List ℕ) → rest ≡ text ++ more → is_piece piece text ≡ false
-
--- What a search for the piece in front of `rest` finds: none, or a piece and its length.
-abbrev pub FindsPiece : List ℕ → Option (Piece × ℕ) → Type 0
-FindsPiece rest None = BeginsNone rest
-FindsPiece rest (Some found) = (0 < found.1) × (found.1 ≤ length rest) × IsLongest rest found.0 (take found.1 rest) (drop found.1 rest)
 
 -- No token can be read here: none begins, though bytes are left, or the longest match is a number that doesn't fit.
 pub data IsBad (rest : List ℕ) : Type 0 where
