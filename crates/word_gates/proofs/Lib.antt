@@ -4,3 +4,6 @@ pub mod PlaceLemmas
 pub mod SumLaws
 pub mod ReductionLaws
 pub mod RippleLemmas
+pub mod MovingLaws
+pub mod ProductLaws
+pub mod MoveLemmas

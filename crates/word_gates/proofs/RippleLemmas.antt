@@ -52,7 +52,7 @@ repeated_more w done i n lt h = let e : n - i ≡ suc (n - (i + 1)) = omega arit
 pub repeated_end : (w : Wire) (done : List Wire) (i n : ℕ) → n ≤ i → done ++ replicate (n - i) w ≡ replicate n w → done ≡ replicate n w
 repeated_end w done i n le h = let e : n - i ≡ 0 = omega arith in sym (append-nil done) ∙ (rw e at h)
 
-values_at : (v : ℕ → Bool) (a : List Wire) (i : ℕ) → i < length a → get_or (values v a) i false ≡ wire_value v (get_or a i no_wire)
+pub values_at : (v : ℕ → Bool) (a : List Wire) (i : ℕ) → i < length a → get_or (values v a) i false ≡ wire_value v (get_or a i no_wire)
 values_at v [] i h = absurd (omega arith)
 values_at v (w ∷ a) zero h = refl
 values_at v (w ∷ a) (suc i) h = values_at v a i (omega arith)

@@ -74,7 +74,7 @@ difference_is xs ys h =
     let e : number_of xs + number_of (map not ys) + 1 ≡ number_of xs + 2 ^ length xs - number_of ys = omega (arith, number_of-not ys, power) in
     sum_bits_is xs (map not ys) true (rw length-map h) ∙ ap (low_bits (length xs)) e
 
-number_of-none : (n : ℕ) → number_of (replicate n false) ≡ 0
+pub number_of-none : (n : ℕ) → number_of (replicate n false) ≡ 0
 number_of-none zero = refl
 number_of-none (suc n) = omega (arith, number_of-none n)
 

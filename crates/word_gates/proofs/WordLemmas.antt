@@ -123,3 +123,6 @@ length-values v a = length-map a (wire_value v)
 
 pub same_length : (v : ℕ → Bool) (a b : List Wire) → length a ≡ length b → length (values v a) ≡ length (values v b)
 same_length v a b h = (length-values v a ∙ h) ∙ sym (length-values v b)
+
+pub extends_sum : (a b c : List Node) (m n : ℕ) → Extends a b m → Extends b c n → Extends a c (m + n)
+extends_sum a b c m n p q = extends_more a b c m n (m + n) p q (omega arith)

@@ -17,8 +17,18 @@ macro_rules! each_lane {
 }
 
 mod bitwise;
+mod choices;
+mod moves;
 mod places;
-pub mod choices;
-pub mod reductions;
-pub mod sums;
-pub mod words;
+mod products;
+mod reductions;
+mod shifts;
+mod sums;
+mod words;
+
+pub use choices::{choose, pick};
+pub use products::mul;
+pub use reductions::{all, any, equal, parity};
+pub use shifts::{shift_left, shift_right, shift_signed};
+pub use sums::{add, less, less_signed, negate, sub};
+pub use words::{and, or, xnor, xor};
