@@ -5,7 +5,7 @@ use Rattle.std.proofs.lemmas.Option.{slice_get-get_or, slice_get_within}
 use Rattle.std.proofs.lemmas.Nat.{row_fits}
 use Rattle.gate_graph.specs.declared.wires.Wire.{Wire}
 use Rattle.gate_graph.specs.declared.nodes.Node.{Node}
-use Rattle.gate_graph.specs.Gates.{wire_value, Respects, IsOf, AreOf, Extends, Means}
+use Rattle.gate_graph.specs.Gates.{wire_value, Respects, IsOf, AreOf, Extends, Keeps, Means}
 use Rattle.gate_graph.proofs.ListLemmas.{get_push}
 use Rattle.gate_graph.proofs.GateLemmas.{respects_old, extends_more, are_of_later}
 use Rattle.word_gates.specs.Words.{values, Shows}
@@ -126,3 +126,6 @@ same_length v a b h = (length-values v a ∙ h) ∙ sym (length-values v b)
 
 pub extends_sum : (a b c : List Node) (m n : ℕ) → Extends a b m → Extends b c n → Extends a c (m + n)
 extends_sum a b c m n p q = extends_more a b c m n (m + n) p q (omega arith)
+
+pub are_of_kept : (wires : List Wire) (old new : List Node) → Keeps old new → AreOf wires old → AreOf wires new
+are_of_kept wires old new e a = record { each = λ i w h. omega (arith, a.each i w h, e.grows) }
