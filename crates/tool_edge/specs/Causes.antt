@@ -1,5 +1,5 @@
 -- What a failure of the outside has to show: a count of faults that rose.
-use Rattle.std.specs.Prelude.{◌≡◌, ◌≢◌, ℕ, ◌-◌, ◌^◌, ◌<◌, ◌≤◌}
+use Rattle.std.specs.Prelude.{◌≢◌, ℕ, ◌-◌, ◌^◌, ◌<◌, ◌≤◌}
 
 -- the count now is above the count before, unless it stands at the last value of a u64
 abbrev pub Rose : ℕ → ℕ → Type 0

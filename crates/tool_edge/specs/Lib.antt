@@ -2,3 +2,11 @@ pub mod Causes
 pub mod Files
 pub mod Calls
 pub mod Written
+pub mod Failing
+pub mod Shelf
+pub mod SteadyDepot
+pub mod MemoryDepot
+pub mod SteadySink
+pub mod MemorySink
+pub mod HostDepot
+pub mod HostSink

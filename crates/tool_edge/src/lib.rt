@@ -2,4 +2,13 @@
 #![tactic(auto)]
 
 pub mod depot;
+pub mod host_depot;
+pub mod host_sink;
+pub mod memory_depot;
+pub mod memory_sink;
+mod shelf;
 pub mod sink;
+pub mod steady_depot;
+pub mod steady_sink;
+#[cfg(test)]
+mod tests;

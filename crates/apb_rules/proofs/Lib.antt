@@ -1,0 +1,4 @@
+pub mod Asked
+pub mod Driven
+pub mod Edges
+pub mod Lists

@@ -1,0 +1,5 @@
+pub mod Clauses
+pub mod Chains
+pub mod Propagation
+pub mod Checker
+pub mod Laws

@@ -1,0 +1,14 @@
+//! Clauses, resolution chains, and what follows from them.
+#![tactic(auto)]
+
+pub mod answer;
+pub mod chain;
+pub mod checker;
+pub mod clause;
+pub mod formula;
+pub mod laws;
+pub mod lemmas;
+pub mod literal;
+pub mod resolver;
+#[cfg(test)]
+mod tests;
