@@ -1,6 +1,5 @@
 -- Operators of bits by conjunctions and inversions.
 use Rattle.std.proofs.Common.{◌≡◌, Bool, true, false, not, ◌&&◌, ◌||◌, cond, refl}
-use Rattle.std.specs.Prelude.{if◌then◌else◌}
 use Rattle.bit_base.specs.Operators.{differ}
 
 pub or_by_and : (x y : Bool) → not (not x && not y) ≡ (x || y)

@@ -1,12 +1,12 @@
 -- Wires of moved words.
-use Rattle.std.proofs.Common.{◌≡◌, ℕ, zero, suc, ◌+◌, ◌-◌, ◌*◌, ◌^◌, ◌<◌, ◌≤◌, Bool, true, false, cond, min, List, [], ◌∷◌, ◌++◌, length, map, take, drop, replicate, get_or, arith, refl, sym, ap, ◌∙◌}
+use Rattle.std.proofs.Common.{◌≡◌, ℕ, zero, suc, ◌-◌, Bool, true, false, min, List, [], ◌∷◌, length, take, drop, replicate, arith, refl, ap}
 use Rattle.std.specs.List.{take-map}
 use Rattle.std.proofs.lemmas.List.{map-append, length-map, drop-map, length-append, length-replicate, length-take, length-drop}
 use Rattle.gate_graph.specs.declared.wires.Wire.{Wire}
 use Rattle.gate_graph.specs.declared.nodes.Node.{Node}
-use Rattle.gate_graph.specs.Gates.{wire_value, Respects, IsOf, AreOf}
+use Rattle.gate_graph.specs.Gates.{wire_value, IsOf, AreOf}
 use Rattle.word_gates.specs.Moving.{moved_by}
-use Rattle.word_gates.specs.Words.{values, Shows}
+use Rattle.word_gates.specs.Words.{values}
 use Rattle.word_gates.proofs.WordLemmas.{are_of_cons, are_of_none, are_of_append}
 use Rattle.word_gates.proofs.RippleLemmas.{are_of_take}
 

@@ -1,13 +1,11 @@
 -- Words moved by places.
 use Rattle.std.proofs.Common.{◌≡◌, ℕ, zero, suc, ◌+◌, ◌-◌, ◌*◌, ◌^◌, ◌<◌, ◌≤◌, Bool, true, false, not, ◌&&◌, ◌||◌, cond, min, List, [], ◌∷◌, ◌++◌, length, map, take, drop, replicate, get_or, refl, sym, ap, ◌∙◌, arith, subst, inl, inr, append_assoc, length-append}
-use Rattle.std.specs.List.{take-map}
-use Rattle.std.proofs.lemmas.List.{length-replicate, length-take, length-drop, length-map, take-take, take-replicate, drop-drop, drop-replicate, drop-map, drop_all, take_all, map-append, append-nil, replicate-append-replicate, take-append-drop, take_more}
+use Rattle.std.proofs.lemmas.List.{length-replicate, length-take, length-drop, drop-drop, drop-replicate, drop_all, take_all, append-nil, replicate-append-replicate, take-append-drop, take_more}
 use Rattle.std.proofs.lemmas.Bool.{cases_lt}
 use Rattle.std.proofs.Math.Nat.{pow-succ'}
-use Rattle.std.proofs.Math.Pow.{pow_mono}
 use Rattle.bit_base.specs.Numbers.{number_of, sign_of}
-use Rattle.bit_base.specs.Operators.{shifted_left, shifted_right, is_any}
-use Rattle.bit_base.proofs.Numbers.{number_of-below, number_of-append, number_of-push}
+use Rattle.bit_base.specs.Operators.{shifted_right, is_any}
+use Rattle.bit_base.proofs.Numbers.{number_of-append, number_of-push}
 use Rattle.word_gates.specs.Moving.{moved_by}
 
 drop_over : (m : ℕ) (xs ys : List Bool) → drop m (xs ++ ys) ≡ drop m xs ++ drop (m - length xs) ys
@@ -51,16 +49,24 @@ moved_left_twice : (m n w : ℕ) (f : Bool) (a : List Bool) → length a ≡ w
     → replicate (min m w) f ++ take (w - m) (replicate (min n w) f ++ take (w - n) a) ≡ replicate (min (n + m) w) f ++ take (w - (n + m)) a
 moved_left_twice m n w f a h =
     let inner : take (w - m) (replicate (min n w) f ++ take (w - n) a) ≡ replicate (min (w - m) (min n w)) f ++ take (w - (n + m)) a =
-      let places : min (w - m - min n w) (w - n) ≡ w - (n + m) = omega arith in
-      rw (take_over (w - m) (replicate (min n w) f) (take (w - n) a), length-replicate (min n w) f, take_of_same (w - m) (min n w) f, take_of_take (w - m - min n w) (w - n) a, places) refl in
+    let places : min (w - m - min n w) (w - n) ≡ w - (n + m) = omega arith in
+    rw (take_over (w - m) (replicate (min n w) f) (take (w - n) a), length-replicate (min n w) f, take_of_same (w - m) (min n w) f, take_of_take (w - m - min n w) (w - n) a, places) refl in
     rw inner (same_twice (min m w) (min (w - m) (min n w)) (min (n + m) w) f (take (w - (n + m)) a) (omega arith))
 
 moved_right_twice : (m n w : ℕ) (f : Bool) (a : List Bool) → length a ≡ w
     → drop m (drop n a ++ replicate (min n w) f) ++ replicate (min m w) f ≡ drop (n + m) a ++ replicate (min (n + m) w) f
 moved_right_twice m n w f a h =
     let total : (min n w - (m - (w - n))) + min m w ≡ min (n + m) w = omega arith in
-    rw (drop_over m (drop n a) (replicate (min n w) f), drop-drop m n a, length-drop n a, h, drop-replicate (m - (w - n)) (min n w) f, append_assoc,
-        replicate-append-replicate (min n w - (m - (w - n))) (min m w) f, total) refl
+    rw (
+      drop_over m (drop n a) (replicate (min n w) f),
+      drop-drop m n a,
+      length-drop n a,
+      h,
+      drop-replicate (m - (w - n)) (min n w) f,
+      append_assoc,
+      replicate-append-replicate (min n w - (m - (w - n))) (min m w) f,
+      total,
+    ) refl
 
 pub moved_twice : (left : Bool) (m n : ℕ) (f : Bool) (a : List Bool) → moved_by left m f (moved_by left n f a) ≡ moved_by left (n + m) f a
 moved_twice true m n f a = rw (moved_length_left n f a) (moved_left_twice m n (length a) f a refl)
@@ -99,11 +105,11 @@ moved_stage left f a false p n = let e : n ≡ n + 0 = omega arith in ap (λ m. 
 -- one place of the amount more
 pub barrel_more : (left : Bool) (f : Bool) (a amount : List Bool) (k : ℕ) → k < length amount
     → cond (get_or amount k false) (moved_by left (2 ^ k) f (moved_by left (number_of (take k amount)) f a)) (moved_by left (number_of (take k amount)) f a)
-        ≡ moved_by left (number_of (take (k + 1) amount)) f a
+    ≡ moved_by left (number_of (take (k + 1) amount)) f a
 barrel_more left f a amount k lt =
     let size : length (take k amount) ≡ k = rw length-take (omega arith) in
     let more : number_of (take (k + 1) amount) ≡ number_of (take k amount) + cond (get_or amount k false) (2 ^ k) 0 =
-      ap number_of (take_more amount k false lt) ∙ (number_of-push (take k amount) (get_or amount k false) ∙ ap (λ n. number_of (take k amount) + cond (get_or amount k false) (2 ^ n) 0) size) in
+    ap number_of (take_more amount k false lt) ∙ (number_of-push (take k amount) (get_or amount k false) ∙ ap (λ n. number_of (take k amount) + cond (get_or amount k false) (2 ^ n) 0) size) in
     moved_stage left f a (get_or amount k false) (2 ^ k) (number_of (take k amount)) ∙ ap (λ n. moved_by left n f a) (sym more)
 
 -- ## Amounts beyond the places that the stages read
@@ -127,7 +133,7 @@ near_only n b h = let none : number_of (drop n b) ≡ 0 = number_without (drop n
 -- an amount with a far bit set is at least 2^11
 far_amount : (n : ℕ) (b : List Bool) → n ≡ min (length b) 11 → is_any (drop n b) ≡ true → (n ≡ 11) × (2048 ≤ number_of b)
 far_amount n b low h = elim (cases_lt 11 (length b)) [
-    inl p ↦
+  | inl p ↦
       let eleven : n ≡ 11 = omega arith in
       let size : length (take n b) ≡ 11 = rw length-take (omega arith) in
       let power : 2 ^ length (take n b) ≡ 2048 = ap (λ k. 2 ^ k) size in
@@ -135,7 +141,8 @@ far_amount n b low h = elim (cases_lt 11 (length b)) [
       (eleven, omega (arith, split, number_with (drop n b) h))
   | inr p ↦
       let past : drop n b ≡ [] = drop_all n b (omega arith) in
-      absurd (let e : is_any [] ≡ true = subst (λ xs. is_any xs ≡ true) past h in let no : ⊥ = cc in no) ]
+      absurd (let e : is_any [] ≡ true = subst (λ xs. is_any xs ≡ true) past h in let no : ⊥ = cc in no)
+]
 
 pub map_and_true : (a : List Bool) → map (λ x. x && true) a ≡ a
 map_and_true [] = refl
@@ -173,13 +180,14 @@ shift_by_near left n a b low few = masked_shift left (is_any (drop n b)) n a b l
 -- a word moved down by all but one place, or more, shows its sign alone
 moved_to_sign : (n : ℕ) (a : List Bool) → 0 < length a → length a ≤ n + 1 → drop n a ++ replicate (min n (length a)) (sign_of a) ≡ replicate (length a) (sign_of a)
 moved_to_sign n a some le = elim (cases_lt n (length a)) [
-    inl p ↦
+  | inl p ↦
       let last : n ≡ length a - 1 = omega arith in
       let one : drop n a ≡ sign_of a ∷ [] = drop_more n a p (omega arith) ∙ ap (λ k. get_or a k false ∷ []) last in
       let count : min n (length a) ≡ n = omega arith in
       let whole : suc n ≡ length a = omega arith in
       rw (one, count) (ap (λ k. replicate k (sign_of a)) whole)
-  | inr p ↦ moved_out false n (sign_of a) a p ]
+  | inr p ↦ moved_out false n (sign_of a) a p
+]
   where
     drop_more : (n : ℕ) (a : List Bool) → n < length a → length a ≤ n + 1 → drop n a ≡ get_or a n false ∷ []
     drop_more zero [] lt le = absurd (omega arith)

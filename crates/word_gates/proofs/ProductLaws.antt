@@ -1,6 +1,6 @@
 -- Products, one row after the other.
-use Rattle.std.proofs.Common.{◌≡◌, ℕ, zero, suc, ◌+◌, ◌-◌, ◌*◌, ◌/◌, ◌%◌, ◌==◌, ◌^◌, ◌<◌, ◌≤◌, Bool, true, false, ◌&&◌, cond, min, List, [], ◌∷◌, ◌++◌, length, map, take, drop, replicate, get_or, refl, sym, ap, ◌∙◌, arith, length-append}
-use Rattle.std.proofs.lemmas.List.{length-replicate, length-take, length-map, take_all, take_more}
+use Rattle.std.proofs.Common.{◌≡◌, ℕ, zero, suc, ◌+◌, ◌-◌, ◌*◌, ◌/◌, ◌%◌, ◌^◌, ◌<◌, ◌≤◌, Bool, true, false, ◌&&◌, cond, min, List, ◌∷◌, ◌++◌, length, map, take, replicate, get_or, refl, sym, ap, ◌∙◌, arith, length-append}
+use Rattle.std.proofs.lemmas.List.{length-replicate, length-take, take_all, take_more}
 use Rattle.std.proofs.lemmas.Nat.{mod-pow-add, shl-shr, mod_low, pow_pos}
 use Rattle.std.proofs.Math.Nat.{zero-mod, add-mod-mod, mod-add-mod}
 use Rattle.bit_base.specs.Numbers.{number_of, low_bits}
@@ -38,7 +38,7 @@ number_of-moved xs i lt =
     let low : number_of xs * 2 ^ i % 2 ^ i ≡ 0 = (let e : number_of xs * 2 ^ i ≡ number_of xs * 2 ^ i + 0 = omega arith in ap (λ n. n % 2 ^ i) e) ∙ mod_low (number_of xs) i 0 (pow_pos i) in
     let remainder : number_of xs * 2 ^ i % 2 ^ (length xs - i + i) ≡ (number_of xs % 2 ^ (length xs - i)) * 2 ^ i + 0 = rw (high, low) at (mod-pow-add (number_of xs * 2 ^ i) (length xs - i) i) in
     let parts : number_of (replicate i false ++ take (length xs - i) xs) ≡ 0 + 2 ^ i * (number_of xs % 2 ^ (length xs - i)) =
-      rw (number_of-append (replicate i false) (take (length xs - i) xs), number_of-none i, length-replicate i false, number_of-take (length xs - i) xs) refl in
+    rw (number_of-append (replicate i false) (take (length xs - i) xs), number_of-none i, length-replicate i false, number_of-take (length xs - i) xs) refl in
     rw count (parts ∙ ((let e : 0 + 2 ^ i * (number_of xs % 2 ^ (length xs - i)) ≡ (number_of xs % 2 ^ (length xs - i)) * 2 ^ i + 0 = omega arith in e) ∙ (sym remainder ∙ ap (λ n. number_of xs * 2 ^ i % 2 ^ n) split)))
 
 length-moved : (xs : List Bool) (i : ℕ) → length (shifted_left i xs) ≡ length xs
@@ -61,11 +61,11 @@ pub product_more : (xs ys : List Bool) (i : ℕ) → i < length xs → i < lengt
 product_more xs ys i p q =
     let size : length (take i ys) ≡ i = rw length-take (omega arith) in
     let more : number_of (take (i + 1) ys) ≡ number_of (take i ys) + cond (get_or ys i false) (2 ^ i) 0 =
-      ap number_of (take_more ys i false q) ∙ (number_of-push (take i ys) (get_or ys i false) ∙ ap (λ n. number_of (take i ys) + cond (get_or ys i false) (2 ^ n) 0) size) in
+    ap number_of (take_more ys i false q) ∙ (number_of-push (take i ys) (get_or ys i false) ∙ ap (λ n. number_of (take i ys) + cond (get_or ys i false) (2 ^ n) 0) size) in
     let spread : number_of xs * number_of (take i ys) + number_of xs * cond (get_or ys i false) (2 ^ i) 0 ≡ number_of xs * number_of (take (i + 1) ys) =
-      sym (ap (λ n. number_of xs * n) more ∙ (let e : number_of xs * (number_of (take i ys) + cond (get_or ys i false) (2 ^ i) 0) ≡ number_of xs * number_of (take i ys) + number_of xs * cond (get_or ys i false) (2 ^ i) 0 = omega arith in e)) in
+    sym (ap (λ n. number_of xs * n) more ∙ (let e : number_of xs * (number_of (take i ys) + cond (get_or ys i false) (2 ^ i) 0) ≡ number_of xs * number_of (take i ys) + number_of xs * cond (get_or ys i false) (2 ^ i) 0 = omega arith in e)) in
     rw (length-low_bits (length xs) (number_of xs * number_of (take i ys)), number_of-low_bits (length xs) (number_of xs * number_of (take i ys)), number_of-row xs (get_or ys i false) i p)
-      (low_bits_sum (length xs) (number_of xs * number_of (take i ys)) (number_of xs * cond (get_or ys i false) (2 ^ i) 0) ∙ ap (low_bits (length xs)) spread)
+    (low_bits_sum (length xs) (number_of xs * number_of (take i ys)) (number_of xs * cond (get_or ys i false) (2 ^ i) 0) ∙ ap (low_bits (length xs)) spread)
 
 pub product_all : (xs ys : List Bool) (i : ℕ) → length ys ≤ i → product_upto xs ys i ≡ product_of xs ys
 product_all xs ys i h = ap (λ l. low_bits (length xs) (number_of xs * number_of l)) (take_all i ys h)

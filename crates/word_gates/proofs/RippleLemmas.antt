@@ -1,23 +1,21 @@
 -- Sums and carries from a place on, and words that are inverted or repeated.
-use Rattle.std.proofs.Common.{◌≡◌, ℕ, zero, suc, ◌+◌, ◌-◌, ◌/◌, ◌<◌, ◌≤◌, Bool, true, false, not, List, [], ◌∷◌, ◌++◌, length, map, take, drop, replicate, get_or, arith, refl, sym, ap, ◌∙◌}
+use Rattle.std.proofs.Common.{◌≡◌, ℕ, zero, suc, ◌+◌, ◌-◌, ◌/◌, ◌<◌, ◌≤◌, Bool, false, not, List, [], ◌∷◌, ◌++◌, length, take, drop, replicate, get_or, arith, refl, sym, ◌∙◌}
 use Rattle.std.specs.List.{take-map}
 use Rattle.std.proofs.lemmas.List.{map-append, length-map, append_assoc, append-nil}
 use Rattle.gate_graph.specs.declared.wires.Wire.{Wire}
 use Rattle.gate_graph.specs.declared.nodes.Node.{Node}
-use Rattle.gate_graph.specs.Gates.{wire_value, Respects, IsOf, AreOf, Means}
-use Rattle.gate_graph.proofs.GateLemmas.{extends_none}
+use Rattle.gate_graph.specs.Gates.{wire_value, IsOf, AreOf, Means}
 use Rattle.bit_base.specs.Operators.{differ}
-use Rattle.bit_base.specs.Numbers.{sign_of}
 use Rattle.word_gates.specs.Ripple.{carry_of, sum_bits, carry_bits, with_sign_inverted}
 use Rattle.word_gates.specs.Words.{values, Shows}
-use Rattle.word_gates.proofs.WordLemmas.{no_wire, values_drop, values_end, of_here, are_of_cons, are_of_none, are_of_push}
+use Rattle.word_gates.proofs.WordLemmas.{no_wire, values_drop, values_end, are_of_cons, are_of_none, are_of_push}
 
 abbrev pub sums_from : (ℕ → Bool) → List Wire → List Wire → ℕ → Bool → List Bool
 sums_from v a b i c = sum_bits (values v (drop i a)) (values v (drop i b)) c
 
 pub sums_more : (v : ℕ → Bool) (a b : List Wire) (i : ℕ) (c : Bool) → i < length a → i < length b
     → sums_from v a b i c ≡ differ (differ (wire_value v (get_or a i no_wire)) (wire_value v (get_or b i no_wire))) c
-        ∷ sums_from v a b (i + 1) (carry_of (wire_value v (get_or a i no_wire)) (wire_value v (get_or b i no_wire)) c)
+    ∷ sums_from v a b (i + 1) (carry_of (wire_value v (get_or a i no_wire)) (wire_value v (get_or b i no_wire)) c)
 sums_more v a b i c p q = rw (values_drop v a i p, values_drop v b i q) refl
 
 pub sums_end : (v : ℕ → Bool) (a b : List Wire) (i : ℕ) (c : Bool) → length a ≤ i → sums_from v a b i c ≡ []
@@ -44,7 +42,8 @@ shows_repeated nodes w bit (suc n) m =
     let rest : Shows nodes (replicate n w) (λ v. replicate n (bit v)) = shows_repeated nodes w bit n m in
     record {
       of = are_of_cons w (replicate n w) nodes m.of rest.of;
-      value = λ v r. rw (m.value v r, rest.value v r) refl }
+      value = λ v r. rw (m.value v r, rest.value v r) refl;
+    }
 
 pub repeated_more : (w : Wire) (done : List Wire) (i n : ℕ) → i < n → done ++ replicate (n - i) w ≡ replicate n w → (done ++ w ∷ []) ++ replicate (n - (i + 1)) w ≡ replicate n w
 repeated_more w done i n lt h = let e : n - i ≡ suc (n - (i + 1)) = omega arith in rw append_assoc (rw e at h)
@@ -68,6 +67,7 @@ pub shows_sign_inverted : (nodes : List Node) (a : List Wire) (w : Wire) → 0 <
 shows_sign_inverted nodes a w h of m = record {
   of = are_of_push (take (length a - 1) a) w nodes (are_of_take a (length a - 1) nodes of) m.of;
   value = λ v r.
-    let last : length a - 1 < length a = omega arith in
-    let grown : values v (take (length a - 1) a ++ w ∷ []) ≡ values v (take (length a - 1) a) ++ wire_value v w ∷ [] = map-append (wire_value v) (take (length a - 1) a) (w ∷ []) in
-    rw (grown, m.value v r, length-map a (wire_value v), values_at v a (length a - 1) last, take-map (wire_value v) (length a - 1) a) refl }
+      let last : length a - 1 < length a = omega arith in
+      let grown : values v (take (length a - 1) a ++ w ∷ []) ≡ values v (take (length a - 1) a) ++ wire_value v w ∷ [] = map-append (wire_value v) (take (length a - 1) a) (w ∷ []) in
+      rw (grown, m.value v r, length-map a (wire_value v), values_at v a (length a - 1) last, take-map (wire_value v) (length a - 1) a) refl;
+}

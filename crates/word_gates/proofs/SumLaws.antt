@@ -1,5 +1,5 @@
 -- Sums, carries and comparisons of numbers, bit by bit.
-use Rattle.std.proofs.Common.{◌≡◌, ℕ, zero, suc, ◌+◌, ◌-◌, ◌*◌, ◌/◌, ◌%◌, ◌==◌, ◌^◌, ◌<◌, ◌≤◌, Bool, true, false, not, ◌&&◌, ◌||◌, cond, List, [], ◌∷◌, ◌++◌, length, map, take, drop, replicate, get_or, refl, sym, ap, ◌∙◌, arith, subst, length-append}
+use Rattle.std.proofs.Common.{◌≡◌, ℕ, zero, suc, ◌+◌, ◌-◌, ◌*◌, ◌/◌, ◌%◌, ◌==◌, ◌^◌, ◌<◌, ◌≤◌, Bool, true, false, not, cond, List, [], ◌∷◌, ◌++◌, length, map, take, replicate, refl, sym, ap, ◌∙◌, arith}
 use Rattle.std.specs.Prelude.{nat_lt, pos, ◌-ℤ◌}
 use Rattle.std.proofs.lemmas.List.{length-map, length-replicate, take_more, take_all, length-take-le}
 use Rattle.std.specs.Int.Signed.{lt_z}
@@ -7,7 +7,7 @@ use Rattle.std.proofs.Math.Nat.{pow-succ', div-one}
 use Rattle.std.proofs.lemmas.Nat.{shr-shr, div-add-mod', mod_below, pow_pos}
 use Rattle.std.proofs.lemmas.Bool.Decides.{nat_tests}
 use Rattle.std.proofs.lemmas.Int.{ints}
-use Rattle.bit_base.specs.Numbers.{number_of, sign_of, signed_number_of, low_bits}
+use Rattle.bit_base.specs.Numbers.{number_of, sign_of, low_bits}
 use Rattle.bit_base.specs.Operators.{differ, sum_of, difference_of, negation_of, is_less, is_less_signed}
 use Rattle.word_gates.specs.Ripple.{carry_of, sum_bits, carry_bits, with_sign_inverted}
 use Rattle.bit_base.proofs.Numbers.{number_of-below, number_of-push, signed_number_of-push}
@@ -53,7 +53,7 @@ carry_bits_is (x ∷ xs) [] c h = absurd (omega arith)
 carry_bits_is (x ∷ xs) (y ∷ ys) c h =
     let split : 1 + length xs ≡ suc (length xs) = omega arith in
     rw (← split, ← shr-shr ((cond x 1 0 + 2 * number_of xs) + (cond y 1 0 + 2 * number_of ys) + cond c 1 0) 1 (length xs), sum-half x y c (number_of xs) (number_of ys))
-      (carry_bits_is xs ys (carry_of x y c) (omega arith))
+    (carry_bits_is xs ys (carry_of x y c) (omega arith))
 
 -- the number of inverted bits
 pub number_of-not : (bits : List Bool) → number_of (map not bits) + number_of bits + 1 ≡ 2 ^ length bits
@@ -99,7 +99,7 @@ pub less_is : (xs ys : List Bool) → length xs ≡ length ys → not (carry_bit
 less_is xs ys h =
     let power : 2 ^ length ys ≡ 2 ^ length xs = ap (λ n. 2 ^ n) (sym h) in
     less_by (carry_bits xs (map not ys) true) (number_of xs) (number_of ys) (number_of (map not ys)) (2 ^ length xs) (pow_pos (length xs)) (number_of-not ys ∙ power)
-      (carry_bits_is xs (map not ys) true (rw length-map h))
+    (carry_bits_is xs (map not ys) true (rw length-map h))
 
 -- a signed comparison is the unsigned one of words with inverted signs
 signed_parts : (s t : Bool) (m n p : ℕ) → m < p → n < p
@@ -112,7 +112,7 @@ signed_parts false false m n p h k = grind (arith, nat_tests, ints)
 pub less_signed_is : (xs ys : List Bool) (s t : Bool) → length xs ≡ length ys → is_less (xs ++ not s ∷ []) (ys ++ not t ∷ []) ≡ is_less_signed (xs ++ s ∷ []) (ys ++ t ∷ [])
 less_signed_is xs ys s t h =
     rw (number_of-push xs (not s), number_of-push ys (not t), signed_number_of-push xs s, signed_number_of-push ys t, h)
-      (signed_parts s t (number_of xs) (number_of ys) (2 ^ length ys) (rw h at (number_of-below xs)) (number_of-below ys))
+    (signed_parts s t (number_of xs) (number_of ys) (2 ^ length ys) (rw h at (number_of-below xs)) (number_of-below ys))
 
 -- a word is its places below the last, and its sign
 sign_split : (bits : List Bool) → 0 < length bits → take (length bits - 1) bits ++ sign_of bits ∷ [] ≡ bits
@@ -125,5 +125,5 @@ pub less_by_signs : (xs ys : List Bool) → 0 < length xs → length xs ≡ leng
 less_by_signs xs ys h e =
     let below : length (take (length xs - 1) xs) ≡ length (take (length ys - 1) ys) = rw (length-take-le (length xs - 1) xs (omega arith), length-take-le (length ys - 1) ys (omega arith)) (omega arith) in
     let signed : is_less (with_sign_inverted xs) (with_sign_inverted ys) ≡ is_less_signed (take (length xs - 1) xs ++ sign_of xs ∷ []) (take (length ys - 1) ys ++ sign_of ys ∷ []) =
-      less_signed_is (take (length xs - 1) xs) (take (length ys - 1) ys) (sign_of xs) (sign_of ys) below in
+    less_signed_is (take (length xs - 1) xs) (take (length ys - 1) ys) (sign_of xs) (sign_of ys) below in
     signed ∙ (ap (λ zs. is_less_signed zs (take (length ys - 1) ys ++ sign_of ys ∷ [])) (sign_split xs h) ∙ ap (λ zs. is_less_signed xs zs) (sign_split ys (omega arith)))

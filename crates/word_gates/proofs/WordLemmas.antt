@@ -1,7 +1,7 @@
 -- Words of wires that are built place by place.
-use Rattle.std.proofs.Common.{◌≡◌, ℕ, zero, suc, ◌+◌, ◌*◌, ◌^◌, ◌<◌, ◌≤◌, Bool, true, false, List, [], ◌∷◌, ◌++◌, length, map, take, drop, get_or, slice_get, Option, Some, arith, refl, sym, ap, ◌∙◌, ◌⊎◌, inl, inr, subst, append_assoc, length-append}
-use Rattle.std.proofs.lemmas.List.{length-map, drop_more, drop_all, map-append, append-nil, drop-map}
-use Rattle.std.proofs.lemmas.Option.{slice_get-get_or, slice_get_within}
+use Rattle.std.proofs.Common.{◌≡◌, ℕ, zero, suc, ◌+◌, ◌*◌, ◌^◌, ◌<◌, ◌≤◌, Bool, List, [], ◌∷◌, ◌++◌, length, drop, get_or, slice_get, Some, arith, refl, sym, ap, ◌∙◌, inl, inr, subst, append_assoc}
+use Rattle.std.proofs.lemmas.List.{length-map, drop_more, drop_all, map-append, append-nil}
+use Rattle.std.proofs.lemmas.Option.{slice_get-get_or}
 use Rattle.std.proofs.lemmas.Nat.{row_fits}
 use Rattle.gate_graph.specs.declared.wires.Wire.{Wire}
 use Rattle.gate_graph.specs.declared.nodes.Node.{Node}
@@ -22,9 +22,12 @@ pub of_here : (wires : List Wire) (nodes : List Node) (i : ℕ) → AreOf wires 
 of_here wires nodes i a lt = a.each i (get_or wires i no_wire) (slice_get-get_or wires i no_wire lt)
 
 pub are_of_push : (wires : List Wire) (w : Wire) (nodes : List Node) → AreOf wires nodes → IsOf w nodes → AreOf (wires ++ w ∷ []) nodes
-are_of_push wires w nodes a h = record { each = λ i u at. elim (get_push wires w u i at) [
-    inl p ↦ a.each i u p
-  | inr p ↦ subst (λ (x : Wire). IsOf x nodes) p.1 h ] }
+are_of_push wires w nodes a h = record {
+  each = λ i u at. elim (get_push wires w u i at) [
+    | inl p ↦ a.each i u p
+    | inr p ↦ subst (λ (x : Wire). IsOf x nodes) p.1 h
+  ];
+}
 
 pub are_of_cons : (x : Wire) (wires : List Wire) (nodes : List Node) → IsOf x nodes → AreOf wires nodes → AreOf (x ∷ wires) nodes
 are_of_cons x wires nodes h rest = record { each = λ i w at. each_of x wires nodes h rest i w at }
@@ -71,15 +74,17 @@ pub so_far_more : (old new : List Node) (k : ℕ) (wires : List Wire) (w : Wire)
 so_far_more old new k wires w bit rest next all e s m step = record {
   of = are_of_push wires w new (are_of_later wires old new k e s.of) m.of;
   value = λ v r.
-    let before : values v wires ++ rest v ≡ all v = s.value v (respects_old v old new k e r) in
-    let here : wire_value v w ≡ bit v = m.value v r in
-    let grown : values v (wires ++ w ∷ []) ≡ values v wires ++ wire_value v w ∷ [] = map-append (wire_value v) wires (w ∷ []) in
-    rw (grown, append_assoc, here) (rw (step v r) at before) }
+      let before : values v wires ++ rest v ≡ all v = s.value v (respects_old v old new k e r) in
+      let here : wire_value v w ≡ bit v = m.value v r in
+      let grown : values v (wires ++ w ∷ []) ≡ values v wires ++ wire_value v w ∷ [] = map-append (wire_value v) wires (w ∷ []) in
+      rw (grown, append_assoc, here) (rw (step v r) at before);
+}
 
 pub so_far_all : (nodes : List Node) (wires : List Wire) (rest all : (ℕ → Bool) → List Bool) → SoFar nodes wires rest all → ((v : ℕ → Bool) → rest v ≡ []) → Shows nodes wires all
 so_far_all nodes wires rest all s none = record {
   of = s.of;
-  value = λ v r. let whole : values v wires ++ rest v ≡ all v = s.value v r in sym (append-nil (values v wires)) ∙ (rw (none v) at whole) }
+  value = λ v r. let whole : values v wires ++ rest v ≡ all v = s.value v r in sym (append-nil (values v wires)) ∙ (rw (none v) at whole);
+}
 
 -- room for the gates of one place more
 pub room_at : (gates i n before now : ℕ) → now ≤ before + i * gates → i < n → before + n * gates < 2 ^ 31 → now + gates < 2 ^ 31
@@ -105,8 +110,9 @@ pub along_more : (old new : List Node) (k : ℕ) (w u : Wire) (bit : (ℕ → Bo
 along_more old new k w u bit rest next all e s m step = record {
   of = m.of;
   value = λ v r.
-    let before : rest v (wire_value v w) ≡ all v = s.value v (respects_old v old new k e r) in
-    rw (m.value v r) (sym (step v) ∙ before) }
+      let before : rest v (wire_value v w) ≡ all v = s.value v (respects_old v old new k e r) in
+      rw (m.value v r) (sym (step v) ∙ before);
+}
 
 pub along_all : (nodes : List Node) (w : Wire) (rest : (ℕ → Bool) → Bool → Bool) (all : (ℕ → Bool) → Bool) → Along nodes w rest all → ((v : ℕ → Bool) (x : Bool) → rest v x ≡ x) → Means nodes w all
 along_all nodes w rest all s none = record { of = s.of; value = λ v r. sym (none v (wire_value v w)) ∙ s.value v r }

@@ -1,5 +1,5 @@
 -- What the gates of a sum compute, bit by bit. (The operators themselves are stated by numbers; these serve within the crate.)
-use Rattle.std.specs.Prelude.{ℕ, ◌-◌, Bool, not, ◌&&◌, ◌||◌, List, [], ◌∷◌, ◌++◌, length, take}
+use Rattle.std.specs.Prelude.{◌-◌, Bool, not, ◌&&◌, ◌||◌, List, [], ◌∷◌, ◌++◌, length, take}
 use Rattle.bit_base.specs.Numbers.{sign_of}
 use Rattle.bit_base.specs.Operators.{differ}
 

@@ -6,14 +6,17 @@ ghost use Rattle.bit_base.specs.Operators.{each_place};
 ghost use Rattle.word_gates.specs.Places.{place_of, gates_of};
 ghost use Rattle.word_gates.specs.Words.{values, Shows};
 
+use crate::places::place;
+use gate_graph::{Graph, Wire};
 use std::alloc::{AllocError, Global};
 
-use gate_graph::{Graph, Wire};
-
-use crate::places::place;
-
 /// The operator of this number at each place of both words.
-pub fn bitwise<const OPERATOR: u8>(graph: &mut Graph, alloc: Global, a: &[Wire], b: &[Wire]) -> Result<Vec<Wire>, AllocError>
+pub fn bitwise<const OPERATOR: u8>(
+    graph: &mut Graph,
+    alloc: Global,
+    a: &[Wire],
+    b: &[Wire],
+) -> Result<Vec<Wire>, AllocError>
     requires a_of { AreOf a.now graph.old }
     requires b_of { AreOf b.now graph.old }
     requires lengths { length a.now ≡ length b.now }

@@ -5,15 +5,19 @@ ghost use Rattle.gate_graph.specs.Gates.{wire_value, AreOf, IsOf, Extends};
 ghost use Rattle.bit_base.specs.Operators.{chosen, picked};
 ghost use Rattle.word_gates.specs.Words.{values, Shows};
 
-use std::alloc::{AllocError, Global};
-
-use gate_graph::{Graph, Wire};
-
 use crate::places::pick_wire;
 use crate::reductions::any_wire;
+use gate_graph::{Graph, Wire};
+use std::alloc::{AllocError, Global};
 
 /// The first word where the wire is true, else the second: three gates a place.
-pub fn between(graph: &mut Graph, alloc: Global, a: &[Wire], b: &[Wire], c: Wire) -> Result<Vec<Wire>, AllocError>
+pub fn between(
+    graph: &mut Graph,
+    alloc: Global,
+    a: &[Wire],
+    b: &[Wire],
+    c: Wire,
+) -> Result<Vec<Wire>, AllocError>
     requires a_of { AreOf a.now graph.old }
     requires b_of { AreOf b.now graph.old }
     requires c_of { IsOf c graph.old }
@@ -28,7 +32,12 @@ pub fn between(graph: &mut Graph, alloc: Global, a: &[Wire], b: &[Wire], c: Wire
 }
 
 /// Each place of the word where the wire is true, else false: one gate a place.
-pub fn masked(graph: &mut Graph, alloc: Global, a: &[Wire], c: Wire) -> Result<Vec<Wire>, AllocError>
+pub fn masked(
+    graph: &mut Graph,
+    alloc: Global,
+    a: &[Wire],
+    c: Wire,
+) -> Result<Vec<Wire>, AllocError>
     requires a_of { AreOf a.now graph.old }
     requires c_of { IsOf c graph.old }
     requires room { length graph.old + length a.now * 1 < 2 ^ 31 }
@@ -41,7 +50,13 @@ pub fn masked(graph: &mut Graph, alloc: Global, a: &[Wire], c: Wire) -> Result<V
 }
 
 /// `c ? a : b`: a where some wire of c is true, else b. Three gates a place, and one for each wire of c.
-pub fn choose(graph: &mut Graph, alloc: Global, a: &[Wire], b: &[Wire], c: &[Wire]) -> Result<Vec<Wire>, AllocError>
+pub fn choose(
+    graph: &mut Graph,
+    alloc: Global,
+    a: &[Wire],
+    b: &[Wire],
+    c: &[Wire],
+) -> Result<Vec<Wire>, AllocError>
     requires a_of { AreOf a.now graph.old }
     requires b_of { AreOf b.now graph.old }
     requires c_of { AreOf c.now graph.old }
@@ -57,7 +72,13 @@ pub fn choose(graph: &mut Graph, alloc: Global, a: &[Wire], b: &[Wire], c: &[Wir
 }
 
 /// At each place a where c is true there, else b: three gates a place.
-pub fn pick(graph: &mut Graph, alloc: Global, a: &[Wire], b: &[Wire], c: &[Wire]) -> Result<Vec<Wire>, AllocError>
+pub fn pick(
+    graph: &mut Graph,
+    alloc: Global,
+    a: &[Wire],
+    b: &[Wire],
+    c: &[Wire],
+) -> Result<Vec<Wire>, AllocError>
     requires a_of { AreOf a.now graph.old }
     requires b_of { AreOf b.now graph.old }
     requires c_of { AreOf c.now graph.old }

@@ -6,12 +6,10 @@ ghost use Rattle.bit_base.specs.Numbers.{number_of};
 ghost use Rattle.word_gates.specs.Moving.{moved_by};
 ghost use Rattle.word_gates.specs.Words.{values, Shows};
 
-use std::alloc::{AllocError, Global};
-
-use gate_graph::{Graph, Wire};
-
 use crate::choices::between;
 use crate::sums::repeated;
+use gate_graph::{Graph, Wire};
+use std::alloc::{AllocError, Global};
 
 /// Toward the last place of a word.
 pub const UP: u8 = 0;
@@ -20,7 +18,12 @@ pub const UP: u8 = 0;
 pub const DOWN: u8 = 1;
 
 /// The word moved by so many places, `UP` or `DOWN`; the fill comes in. No gates.
-pub fn moved<const DIRECTION: u8>(alloc: Global, a: &[Wire], places: usize, fill: Wire) -> Result<Vec<Wire>, AllocError>
+pub fn moved<const DIRECTION: u8>(
+    alloc: Global,
+    a: &[Wire],
+    places: usize,
+    fill: Wire,
+) -> Result<Vec<Wire>, AllocError>
     ensures { IfOk result (λ wires. wires.items ≡ moved_by (DIRECTION == UP) places fill a.now) }
 {
     let wires = match DIRECTION {
@@ -39,7 +42,12 @@ fn moved_left(alloc: Global, a: &[Wire], places: usize, fill: Wire) -> Result<Ve
     Ok(wires)
 }
 
-fn moved_right(alloc: Global, a: &[Wire], places: usize, fill: Wire) -> Result<Vec<Wire>, AllocError>
+fn moved_right(
+    alloc: Global,
+    a: &[Wire],
+    places: usize,
+    fill: Wire,
+) -> Result<Vec<Wire>, AllocError>
     ensures { IfOk result (λ wires. wires.items ≡ drop places a.now ++ replicate (min places (length a.now)) fill) }
 {
     let gone = places.min(a.len());
@@ -51,17 +59,22 @@ fn moved_right(alloc: Global, a: &[Wire], places: usize, fill: Wire) -> Result<V
 }
 
 /// The word moved by so many places where the bit is true, else as it is: three gates a place.
-pub fn stage<const DIRECTION: u8>(graph: &mut Graph, alloc: Global, a: &[Wire], places: usize, fill: Wire, bit: Wire) -> Result<Vec<Wire>, AllocError>
+pub fn stage<const DIRECTION: u8>(
+    graph: &mut Graph,
+    alloc: Global,
+    a: &[Wire],
+    places: usize,
+    fill: Wire,
+    bit: Wire,
+) -> Result<Vec<Wire>, AllocError>
     requires a_of { AreOf a.now graph.old }
     requires fill_of { IsOf fill graph.old }
     requires bit_of { IsOf bit graph.old }
     requires room { length graph.old + length a.now * 3 < 2 ^ 31 }
     ensures nodes { Extends graph.old graph.new (length a.now * 3) }
     ensures length { IfOk result (λ wires. length wires.items ≡ length a.now) }
-    ensures value {
-        IfOk result (λ wires. Shows graph.new wires.items
-          (λ v. if wire_value v bit then moved_by (DIRECTION == UP) places (wire_value v fill) (values v a.now) else values v a.now))
-    }
+    ensures value { IfOk result (λ wires. Shows graph.new wires.items
+        (λ v. if wire_value v bit then moved_by (DIRECTION == UP) places (wire_value v fill) (values v a.now) else values v a.now)) }
 {
     let far = moved::<DIRECTION>(alloc, a, places, fill)?;
     let wires = between(graph, alloc, far.as_slice(), a, bit)?;
@@ -69,7 +82,13 @@ pub fn stage<const DIRECTION: u8>(graph: &mut Graph, alloc: Global, a: &[Wire], 
 }
 
 /// The word moved by the number of the amount, stage by stage: three gates a place and stage.
-pub fn barrel<const DIRECTION: u8>(graph: &mut Graph, alloc: Global, a: &[Wire], amount: &[Wire], fill: Wire) -> Result<Vec<Wire>, AllocError>
+pub fn barrel<const DIRECTION: u8>(
+    graph: &mut Graph,
+    alloc: Global,
+    a: &[Wire],
+    amount: &[Wire],
+    fill: Wire,
+) -> Result<Vec<Wire>, AllocError>
     requires a_of { AreOf a.now graph.old }
     requires amount_of { AreOf amount.now graph.old }
     requires fill_of { IsOf fill graph.old }
@@ -77,9 +96,7 @@ pub fn barrel<const DIRECTION: u8>(graph: &mut Graph, alloc: Global, a: &[Wire],
     requires room { length graph.old + length amount.now * (3 * length a.now) < 2 ^ 31 }
     ensures nodes { Extends graph.old graph.new (length amount.now * (3 * length a.now)) }
     ensures length { IfOk result (λ wires. length wires.items ≡ length a.now) }
-    ensures value {
-        IfOk result (λ wires. Shows graph.new wires.items (λ v. moved_by (DIRECTION == UP) (number_of (values v amount.now)) (wire_value v fill) (values v a.now)))
-    }
+    ensures value { IfOk result (λ wires. Shows graph.new wires.items (λ v. moved_by (DIRECTION == UP) (number_of (values v amount.now)) (wire_value v fill) (values v a.now))) }
 {
     let mut word = Vec::new(alloc);
     word.extend_from_slice(a)?;

@@ -5,9 +5,8 @@ ghost use Rattle.gate_graph.specs.Gates.{wire_value, IsOf, Extends, Means};
 ghost use Rattle.bit_base.specs.Operators.{differ};
 ghost use Rattle.word_gates.specs.Places.{place_of, gates_of};
 
-use std::alloc::AllocError;
-
 use gate_graph::{Graph, Wire};
+use std::alloc::AllocError;
 
 /// `&`: one gate.
 pub const AND: u8 = 0;

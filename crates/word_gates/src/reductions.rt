@@ -6,15 +6,17 @@ ghost use Rattle.bit_base.specs.Operators.{are_all, is_any, is_odd, is_equal};
 ghost use Rattle.word_gates.specs.Places.{place_of, gates_of, chained};
 ghost use Rattle.word_gates.specs.Words.{values, Shows};
 
+use crate::bitwise::bitwise;
+use crate::places::{AND, OR, XNOR, XOR, place};
+use gate_graph::{Graph, Wire};
 use std::alloc::{AllocError, Global};
 
-use gate_graph::{Graph, Wire};
-
-use crate::bitwise::bitwise;
-use crate::places::{place, AND, OR, XNOR, XOR};
-
 /// The operator of this number over a wire and each wire of a word in turn.
-pub fn chain<const OPERATOR: u8>(graph: &mut Graph, start: Wire, a: &[Wire]) -> Result<Wire, AllocError>
+pub fn chain<const OPERATOR: u8>(
+    graph: &mut Graph,
+    start: Wire,
+    a: &[Wire],
+) -> Result<Wire, AllocError>
     requires start_of { IsOf start graph.old }
     requires a_of { AreOf a.now graph.old }
     requires room { length graph.old + length a.now * gates_of OPERATOR < 2 ^ 31 }
@@ -91,7 +93,12 @@ pub fn parity(graph: &mut Graph, alloc: Global, a: &[Wire]) -> Result<Vec<Wire>,
 }
 
 /// `a == b`: four gates a place.
-pub fn equal(graph: &mut Graph, alloc: Global, a: &[Wire], b: &[Wire]) -> Result<Vec<Wire>, AllocError>
+pub fn equal(
+    graph: &mut Graph,
+    alloc: Global,
+    a: &[Wire],
+    b: &[Wire],
+) -> Result<Vec<Wire>, AllocError>
     requires a_of { AreOf a.now graph.old }
     requires b_of { AreOf b.now graph.old }
     requires lengths { length a.now ≡ length b.now }

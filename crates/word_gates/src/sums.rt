@@ -7,12 +7,10 @@ ghost use Rattle.bit_base.specs.Operators.{differ, sum_of, difference_of, negati
 ghost use Rattle.word_gates.specs.Ripple.{sum_bits, carry_bits, with_sign_inverted};
 ghost use Rattle.word_gates.specs.Words.{values, Shows};
 
-use std::alloc::{AllocError, Global};
-
-use gate_graph::{Graph, Wire};
-
 use crate::places::{carry_wire, sum_wire};
 use crate::reductions::word_of;
+use gate_graph::{Graph, Wire};
+use std::alloc::{AllocError, Global};
 
 /// The sum of two bits and the carry, which becomes the next carry: ten gates.
 pub fn sum_step(graph: &mut Graph, a: Wire, b: Wire, carry: &mut Wire) -> Result<Wire, AllocError>
@@ -22,9 +20,7 @@ pub fn sum_step(graph: &mut Graph, a: Wire, b: Wire, carry: &mut Wire) -> Result
     requires room { length graph.old + 10 < 2 ^ 31 }
     ensures extends { Extends graph.old graph.new 10 }
     ensures sum { IfOk result (λ w. Means graph.new w (λ v. differ (differ (wire_value v a) (wire_value v b)) (wire_value v carry.old))) }
-    ensures carry {
-        OnOk result (Means graph.new carry.new (λ v. wire_value v a && wire_value v b || wire_value v carry.old && (wire_value v a || wire_value v b)))
-    }
+    ensures carry { OnOk result (Means graph.new carry.new (λ v. wire_value v a && wire_value v b || wire_value v carry.old && (wire_value v a || wire_value v b))) }
 {
     let sum = sum_wire(graph, a, b, *carry)?;
     let carried = carry_wire(graph, a, b, *carry)?;
@@ -33,7 +29,13 @@ pub fn sum_step(graph: &mut Graph, a: Wire, b: Wire, carry: &mut Wire) -> Result
 }
 
 /// The sum of two words and a carry, without the carry out: ten gates a place.
-pub fn sums(graph: &mut Graph, alloc: Global, a: &[Wire], b: &[Wire], start: Wire) -> Result<Vec<Wire>, AllocError>
+pub fn sums(
+    graph: &mut Graph,
+    alloc: Global,
+    a: &[Wire],
+    b: &[Wire],
+    start: Wire,
+) -> Result<Vec<Wire>, AllocError>
     requires a_of { AreOf a.now graph.old }
     requires b_of { AreOf b.now graph.old }
     requires start_of { IsOf start graph.old }
@@ -68,9 +70,7 @@ pub fn carry_out(graph: &mut Graph, a: &[Wire], b: &[Wire], start: Wire) -> Resu
 /// The word with each wire inverted; no gates.
 pub fn inverted_word(alloc: Global, a: &[Wire]) -> Result<Vec<Wire>, AllocError>
     ensures length { IfOk result (λ wires. length wires.items ≡ length a.now) }
-    ensures value {
-        IfOk result (λ wires. (nodes : List Node) → AreOf a.now nodes → Shows nodes wires.items (λ v. map not (values v a.now)))
-    }
+    ensures value { IfOk result (λ wires. (nodes : List Node) → AreOf a.now nodes → Shows nodes wires.items (λ v. map not (values v a.now))) }
 {
     let mut wires = Vec::new(alloc);
     for i in 0..a.len() {
@@ -83,9 +83,7 @@ pub fn inverted_word(alloc: Global, a: &[Wire]) -> Result<Vec<Wire>, AllocError>
 pub fn sign_inverted(alloc: Global, a: &[Wire]) -> Result<Vec<Wire>, AllocError>
     requires { 0 < length a.now }
     ensures length { IfOk result (λ wires. length wires.items ≡ length a.now) }
-    ensures value {
-        IfOk result (λ wires. (nodes : List Node) → AreOf a.now nodes → Shows nodes wires.items (λ v. with_sign_inverted (values v a.now)))
-    }
+    ensures value { IfOk result (λ wires. (nodes : List Node) → AreOf a.now nodes → Shows nodes wires.items (λ v. with_sign_inverted (values v a.now))) }
 {
     let last = a.len() - 1;
     let mut wires = Vec::new(alloc);
@@ -106,7 +104,12 @@ pub fn repeated(alloc: Global, wire: Wire, count: usize) -> Result<Vec<Wire>, Al
 }
 
 /// `a + b`, modulo 2 to the width: ten gates a place.
-pub fn add(graph: &mut Graph, alloc: Global, a: &[Wire], b: &[Wire]) -> Result<Vec<Wire>, AllocError>
+pub fn add(
+    graph: &mut Graph,
+    alloc: Global,
+    a: &[Wire],
+    b: &[Wire],
+) -> Result<Vec<Wire>, AllocError>
     requires a_of { AreOf a.now graph.old }
     requires b_of { AreOf b.now graph.old }
     requires lengths { length a.now ≡ length b.now }
@@ -121,7 +124,12 @@ pub fn add(graph: &mut Graph, alloc: Global, a: &[Wire], b: &[Wire]) -> Result<V
 }
 
 /// `a - b`, modulo 2 to the width: ten gates a place.
-pub fn sub(graph: &mut Graph, alloc: Global, a: &[Wire], b: &[Wire]) -> Result<Vec<Wire>, AllocError>
+pub fn sub(
+    graph: &mut Graph,
+    alloc: Global,
+    a: &[Wire],
+    b: &[Wire],
+) -> Result<Vec<Wire>, AllocError>
     requires a_of { AreOf a.now graph.old }
     requires b_of { AreOf b.now graph.old }
     requires lengths { length a.now ≡ length b.now }
@@ -151,7 +159,12 @@ pub fn negate(graph: &mut Graph, alloc: Global, a: &[Wire]) -> Result<Vec<Wire>,
 }
 
 /// `a < b` of unsigned words: four gates a place.
-pub fn less(graph: &mut Graph, alloc: Global, a: &[Wire], b: &[Wire]) -> Result<Vec<Wire>, AllocError>
+pub fn less(
+    graph: &mut Graph,
+    alloc: Global,
+    a: &[Wire],
+    b: &[Wire],
+) -> Result<Vec<Wire>, AllocError>
     requires a_of { AreOf a.now graph.old }
     requires b_of { AreOf b.now graph.old }
     requires lengths { length a.now ≡ length b.now }
@@ -169,7 +182,12 @@ pub fn less(graph: &mut Graph, alloc: Global, a: &[Wire], b: &[Wire]) -> Result<
 }
 
 /// `a < b` of signed words: four gates a place.
-pub fn less_signed(graph: &mut Graph, alloc: Global, a: &[Wire], b: &[Wire]) -> Result<Vec<Wire>, AllocError>
+pub fn less_signed(
+    graph: &mut Graph,
+    alloc: Global,
+    a: &[Wire],
+    b: &[Wire],
+) -> Result<Vec<Wire>, AllocError>
     requires a_of { AreOf a.now graph.old }
     requires b_of { AreOf b.now graph.old }
     requires some { 0 < length a.now }

@@ -3,13 +3,13 @@
 ghost use Rattle.std.specs.Prelude.{◌≡◌, ◌+◌, ◌^◌, ◌<◌, ◌≤◌, length, IfOk, OnOk};
 ghost use Rattle.gate_graph.specs.Gates.{AreOf, Keeps};
 
+use crate::{
+    add, all, and, any, choose, equal, less, less_signed, mul, negate, or, parity, pick,
+    shift_left, shift_right, shift_signed, sub, xnor, xor,
+};
+use gate_graph::{Graph, Node, Wire};
 use std::alloc::{AllocError, Global};
 use std::test::Fail;
-
-use gate_graph::{Graph, Node, Wire};
-
-use crate::{add, all, and, any, choose, equal, less, less_signed, mul, negate, or, parity, pick};
-use crate::{shift_left, shift_right, shift_signed, sub, xnor, xor};
 
 #[derive(Clone, Copy, Debug, PartialEq, Eq, Drop)]
 enum Operator {
@@ -69,7 +69,14 @@ fn word(graph: &mut Graph, alloc: Global, width: usize) -> Result<Vec<Wire>, All
 }
 
 /// The wires of this operator.
-fn applied(graph: &mut Graph, alloc: Global, operator: Operator, a: &[Wire], b: &[Wire], c: &[Wire]) -> Result<Vec<Wire>, AllocError>
+fn applied(
+    graph: &mut Graph,
+    alloc: Global,
+    operator: Operator,
+    a: &[Wire],
+    b: &[Wire],
+    c: &[Wire],
+) -> Result<Vec<Wire>, AllocError>
     requires a_of { AreOf a.now graph.old }
     requires b_of { AreOf b.now graph.old }
     requires c_of { AreOf c.now graph.old }
@@ -111,7 +118,14 @@ fn built(alloc: Global, operator: Operator, width: usize) -> Result<(Graph, Vec<
     let a = word(&mut graph, alloc, width)?;
     let b = word(&mut graph, alloc, width)?;
     let c = word(&mut graph, alloc, width)?;
-    let wires = applied(&mut graph, alloc, operator, a.as_slice(), b.as_slice(), c.as_slice())?;
+    let wires = applied(
+        &mut graph,
+        alloc,
+        operator,
+        a.as_slice(),
+        b.as_slice(),
+        c.as_slice(),
+    )?;
     Ok((graph, wires))
 }
 
@@ -128,7 +142,9 @@ fn number_at(graph: &Graph, wires: &[Wire], inputs: u32, alloc: Global) -> Resul
     }
     let mut number = 0u32;
     for wire in wires.iter().rev() {
-        number = number.wrapping_mul(2).wrapping_add(value_at(table.as_slice(), *wire) as u32);
+        number = number
+            .wrapping_mul(2)
+            .wrapping_add(value_at(table.as_slice(), *wire) as u32);
     }
     Ok(number)
 }
@@ -170,12 +186,24 @@ fn expected(operator: Operator, size: u32, x: u32, y: u32, z: u32) -> u32
 }
 
 /// The number that the operator's wires give at these words, whose width and number of values are given.
-fn number_of(alloc: Global, operator: Operator, width: usize, size: u32, x: u32, y: u32) -> Result<u32, AllocError>
+fn number_of(
+    alloc: Global,
+    operator: Operator,
+    width: usize,
+    size: u32,
+    x: u32,
+    y: u32,
+) -> Result<u32, AllocError>
     requires some { 0 < width }
     requires few { width ≤ 8 }
 {
     let (graph, wires) = built(alloc, operator, width)?;
-    number_at(&graph, wires.as_slice(), x.wrapping_add(y.wrapping_mul(size)), alloc)
+    number_at(
+        &graph,
+        wires.as_slice(),
+        x.wrapping_add(y.wrapping_mul(size)),
+        alloc,
+    )
 }
 
 #[test]
@@ -187,7 +215,11 @@ fn operators_are_those_of_numbers(rt: HostRuntime) -> Result<(), Fail> {
             for inputs in 0..total {
                 let (x, y, z) = (inputs % size, inputs / size % size, inputs / size / size);
                 let number = number_at(&graph, wires.as_slice(), inputs, rt.alloc())?;
-                assert_eq!(rt; number, expected(operator, size, x, y, z), "{operator:?} {x} {y} {z}");
+                assert_eq!(rt;
+                    number,
+                    expected(operator, size, x, y, z),
+                    "{operator:?} {x} {y} {z}"
+                );
             }
         }
     }
@@ -201,7 +233,11 @@ fn operators_are_those_of_numbers(rt: HostRuntime) -> Result<(), Fail> {
     ];
     for (operator, width, size, x, y, wanted) in rows {
         assert!(rt; 1 <= width && width <= 8);
-        assert_eq!(rt; number_of(rt.alloc(), operator, width, size, x, y)?, wanted, "{operator:?} {x} {y}");
+        assert_eq!(rt;
+            number_of(rt.alloc(), operator, width, size, x, y)?,
+            wanted,
+            "{operator:?} {x} {y}"
+        );
     }
     Ok(())
 }

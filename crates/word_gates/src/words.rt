@@ -5,15 +5,18 @@ ghost use Rattle.gate_graph.specs.Gates.{AreOf, Extends};
 ghost use Rattle.bit_base.specs.Operators.{and_of, or_of, xor_of, xnor_of};
 ghost use Rattle.word_gates.specs.Words.{values, Shows};
 
-use std::alloc::{AllocError, Global};
-
-use gate_graph::{Graph, Wire};
-
 use crate::bitwise::bitwise;
 use crate::places::{AND, OR, XNOR, XOR};
+use gate_graph::{Graph, Wire};
+use std::alloc::{AllocError, Global};
 
 /// `a & b`, place by place: one gate a place.
-pub fn and(graph: &mut Graph, alloc: Global, a: &[Wire], b: &[Wire]) -> Result<Vec<Wire>, AllocError>
+pub fn and(
+    graph: &mut Graph,
+    alloc: Global,
+    a: &[Wire],
+    b: &[Wire],
+) -> Result<Vec<Wire>, AllocError>
     requires a_of { AreOf a.now graph.old }
     requires b_of { AreOf b.now graph.old }
     requires lengths { length a.now ≡ length b.now }
@@ -39,7 +42,12 @@ pub fn or(graph: &mut Graph, alloc: Global, a: &[Wire], b: &[Wire]) -> Result<Ve
 }
 
 /// `a ^ b`, place by place: three gates a place.
-pub fn xor(graph: &mut Graph, alloc: Global, a: &[Wire], b: &[Wire]) -> Result<Vec<Wire>, AllocError>
+pub fn xor(
+    graph: &mut Graph,
+    alloc: Global,
+    a: &[Wire],
+    b: &[Wire],
+) -> Result<Vec<Wire>, AllocError>
     requires a_of { AreOf a.now graph.old }
     requires b_of { AreOf b.now graph.old }
     requires lengths { length a.now ≡ length b.now }
@@ -52,7 +60,12 @@ pub fn xor(graph: &mut Graph, alloc: Global, a: &[Wire], b: &[Wire]) -> Result<V
 }
 
 /// `a ~^ b`, place by place: three gates a place.
-pub fn xnor(graph: &mut Graph, alloc: Global, a: &[Wire], b: &[Wire]) -> Result<Vec<Wire>, AllocError>
+pub fn xnor(
+    graph: &mut Graph,
+    alloc: Global,
+    a: &[Wire],
+    b: &[Wire],
+) -> Result<Vec<Wire>, AllocError>
     requires a_of { AreOf a.now graph.old }
     requires b_of { AreOf b.now graph.old }
     requires lengths { length a.now ≡ length b.now }

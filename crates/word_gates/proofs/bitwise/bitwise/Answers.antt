@@ -1,5 +1,4 @@
-use Rattle.std.proofs.Common.{arith, refl, length, length-append, ◌∷◌, [], ◌<◌, ◌≡◌, ◌+◌, ◌*◌}
-use Rattle.gate_graph.specs.Gates.{Extends}
+use Rattle.std.proofs.Common.{arith, refl, length-append, ◌∷◌, [], ◌+◌, ◌*◌}
 use Rattle.gate_graph.proofs.GateLemmas.{extends_more, extends_none}
 use Rattle.word_gates.specs.Places.{place_of, gates_of}
 use Rattle.word_gates.proofs.WordLemmas.{of_at, room_at, so_far_more, so_far_all, so_far_none}
@@ -20,7 +19,7 @@ loop-i-preserved g c = rw c.in_ok-push.ensures.items record {
   extends = extends_more _ _ _ (c.loop-i.i * gates_of g.row.OPERATOR) (gates_of g.row.OPERATOR) ((c.loop-i.i + 1) * gates_of g.row.OPERATOR) c.loop-i.invariant.extends c.place.ensures.extends (omega arith);
   size = omega (arith, length-append c.loop-i.wires.items (c.in_ok-wire.wire ∷ []), c.loop-i.invariant.size);
   so_far = so_far_more _ _ _ _ _ _ _ _ _ c.place.ensures.extends c.loop-i.invariant.so_far c.in_ok-wire.ensures.wire
-    (λ v r. places_more (place_of g.row.OPERATOR) v c.args.a.now c.args.b.now c.loop-i.i c.loop-i-test.true (omega (arith, c.requires.lengths)));
+      (λ v r. places_more (place_of g.row.OPERATOR) v c.args.a.now c.args.b.now c.loop-i.i c.loop-i-test.true (omega (arith, c.requires.lengths)));
 }
 
 pub returns-clause-value : goal.returns-clause-value

@@ -1,4 +1,4 @@
-use Rattle.std.proofs.Common.{◌≡◌, ◌*◌, ◌&&◌, length}
+use Rattle.std.proofs.Common.{◌≡◌, ◌*◌, length}
 use Rattle.std.specs.Prelude.{if◌then◌else◌}
 use Rattle.gate_graph.specs.Gates.{Extends, wire_value}
 use Rattle.word_gates.proofs.WordLemmas.{SoFar}

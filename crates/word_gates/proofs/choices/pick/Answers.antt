@@ -1,10 +1,7 @@
-use Rattle.std.proofs.Common.{arith, refl, length, length-append, ◌∷◌, [], ◌<◌, ◌≡◌, ◌+◌, ◌*◌, ◌&&◌}
-use Rattle.std.specs.Prelude.{if◌then◌else◌}
-use Rattle.gate_graph.specs.Gates.{Extends, IsOf, wire_value}
+use Rattle.std.proofs.Common.{arith, refl, length-append, ◌∷◌, [], ◌+◌, ◌*◌}
 use Rattle.gate_graph.proofs.GateLemmas.{extends_more, extends_none}
-use Rattle.word_gates.specs.Words.{values}
-use Rattle.word_gates.proofs.WordLemmas.{of_at, room_at, so_far_more, so_far_all, so_far_none, shows_same, same_length, extends_at}
-use Rattle.word_gates.proofs.PlaceLemmas.{picked_more, picked_end, between_is}
+use Rattle.word_gates.proofs.WordLemmas.{of_at, room_at, so_far_more, so_far_all, so_far_none}
+use Rattle.word_gates.proofs.PlaceLemmas.{picked_more, picked_end}
 use Rattle.word_gates.proofs.choices.pick.Goals as goal
 
 pub pick_wire-requires-clause-a_of : goal.pick_wire-requires-clause-a_of
@@ -27,7 +24,7 @@ loop-i-preserved c = rw c.in_ok-push.ensures.items record {
   extends = extends_more _ _ _ (c.loop-i.i * 3) 3 ((c.loop-i.i + 1) * 3) c.loop-i.invariant.extends c.pick_wire.ensures.extends (omega arith);
   size = omega (arith, length-append c.loop-i.wires.items (c.in_ok-wire.wire ∷ []), c.loop-i.invariant.size);
   so_far = so_far_more _ _ _ _ _ _ _ _ _ c.pick_wire.ensures.extends c.loop-i.invariant.so_far c.in_ok-wire.ensures.wire
-    (λ v r. picked_more v c.args.a.now c.args.b.now c.args.c.now c.loop-i.i c.loop-i-test.true (omega (arith, c.requires.lengths)) (omega (arith, c.requires.conditions)));
+      (λ v r. picked_more v c.args.a.now c.args.b.now c.args.c.now c.loop-i.i c.loop-i-test.true (omega (arith, c.requires.lengths)) (omega (arith, c.requires.conditions)));
 }
 
 pub returns-clause-value : goal.returns-clause-value

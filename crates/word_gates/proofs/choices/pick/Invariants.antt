@@ -1,6 +1,5 @@
-use Rattle.std.proofs.Common.{◌≡◌, ◌*◌, ◌&&◌, length}
-use Rattle.std.specs.Prelude.{if◌then◌else◌}
-use Rattle.gate_graph.specs.Gates.{Extends, wire_value}
+use Rattle.std.proofs.Common.{◌≡◌, ◌*◌, length}
+use Rattle.gate_graph.specs.Gates.{Extends}
 use Rattle.word_gates.proofs.WordLemmas.{SoFar}
 use Rattle.word_gates.proofs.PlaceLemmas.{picked_from}
 use Rattle.word_gates.proofs.choices.pick.Given as goal

@@ -1,14 +1,13 @@
-use Rattle.std.proofs.Common.{arith, refl, ℕ, Bool, false, ◌≡◌, ◌+◌, ◌*◌, ◌^◌, ◌<◌, ◌≤◌, ◌==◌, cond, length, take, drop, replicate, min, sym, ap, ◌∙◌}
-use Rattle.gate_graph.specs.Gates.{Respects, Extends, AreOf, IsOf, wire_value}
-use Rattle.gate_graph.proofs.GateLemmas.{respects_old, extends_more, extends_none, are_of_later}
-use Rattle.bit_base.specs.Numbers.{number_of, sign_of}
-use Rattle.word_gates.specs.Words.{values, Shows}
+use Rattle.std.proofs.Common.{arith, ◌+◌, ◌*◌, ◌<◌, ◌==◌, length, ap}
+use Rattle.gate_graph.specs.Gates.{Respects, wire_value}
+use Rattle.gate_graph.proofs.GateLemmas.{respects_old, extends_more}
+use Rattle.bit_base.specs.Numbers.{number_of}
+use Rattle.word_gates.specs.Words.{values}
 use Rattle.word_gates.specs.Moving.{moved_by}
-use Rattle.word_gates.proofs.WordLemmas.{shows_same, shows_itself, shows_later, same_length, length-values, of_at, of_here, room_at, extends_at}
+use Rattle.word_gates.proofs.WordLemmas.{shows_same, length-values}
 use Rattle.word_gates.proofs.MovingLaws.{barrel_more, power_more}
 use Rattle.std.proofs.lemmas.List.{take_all}
-use Rattle.word_gates.proofs.RippleLemmas.{shows_repeated, are_of_take, values_at}
-use Rattle.word_gates.proofs.MoveLemmas.{values_moved, are_of_moved, length_moved, are_of_drop}
+use Rattle.word_gates.proofs.RippleLemmas.{values_at}
 use Rattle.word_gates.proofs.moves.barrel.Goals as goal
 
 pub loop-k-preserved : goal.loop-k-preserved
@@ -20,8 +19,8 @@ loop-k-preserved g c =
       size = omega (arith, slice, c.loop-k.invariant.size, c.in_ok-word.ensures.length);
       power = power_more c.loop-k.k c.loop-k.places c.loop-k.invariant.power;
       shows = shows_same _ _ _ _ c.in_ok-word.ensures.value (λ v r.
-        let before : Respects v c.loop-k.graph = respects_old v _ _ _ c.stage.ensures.nodes r in
-        rw (c.as_slice.ensures.value, c.loop-k.invariant.shows.value v before, c.loop-k.invariant.power, ← values_at v c.args.amount.now c.loop-k.k within)
+          let before : Respects v c.loop-k.graph = respects_old v _ _ _ c.stage.ensures.nodes r in
+          rw (c.as_slice.ensures.value, c.loop-k.invariant.shows.value v before, c.loop-k.invariant.power, ← values_at v c.args.amount.now c.loop-k.k within)
           (barrel_more (g.row.DIRECTION == 0) (wire_value v c.args.fill) (values v c.args.a.now) (values v c.args.amount.now) c.loop-k.k (rw (length-values v c.args.amount.now) within)));
     }
 

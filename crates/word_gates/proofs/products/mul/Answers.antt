@@ -1,14 +1,11 @@
-use Rattle.std.proofs.Common.{arith, refl, ℕ, Bool, false, ◌≡◌, ◌+◌, ◌*◌, ◌^◌, ◌<◌, ◌≤◌, ◌==◌, cond, length, take, drop, replicate, min, sym, ap, ◌∙◌}
-use Rattle.gate_graph.specs.Gates.{Respects, Extends, AreOf, IsOf, wire_value}
+use Rattle.std.proofs.Common.{arith, false, ◌+◌, ◌*◌, ◌<◌, length, replicate, sym, ap, ◌∙◌}
+use Rattle.gate_graph.specs.Gates.{Respects}
 use Rattle.gate_graph.proofs.GateLemmas.{respects_old, extends_more, extends_none, are_of_later}
-use Rattle.bit_base.specs.Numbers.{number_of, sign_of}
-use Rattle.word_gates.specs.Words.{values, Shows}
-use Rattle.word_gates.specs.Moving.{moved_by}
-use Rattle.word_gates.proofs.WordLemmas.{shows_same, shows_itself, shows_later, same_length, length-values, of_at, of_here, room_at, extends_at, within_all}
+use Rattle.word_gates.specs.Words.{values}
+use Rattle.word_gates.proofs.WordLemmas.{shows_same, length-values, of_at, room_at, extends_at, within_all}
 use Rattle.word_gates.proofs.ProductLaws.{product_none, product_more, product_all}
 use Rattle.std.proofs.lemmas.List.{length-replicate}
-use Rattle.word_gates.proofs.RippleLemmas.{shows_repeated, are_of_take, values_at}
-use Rattle.word_gates.proofs.MoveLemmas.{values_moved, are_of_moved, length_moved, are_of_drop}
+use Rattle.word_gates.proofs.RippleLemmas.{shows_repeated, values_at}
 use Rattle.word_gates.proofs.products.mul.Goals as goal
 
 pub loop-i-init : goal.loop-i-init
@@ -17,7 +14,8 @@ loop-i-init c =
     rw c.in_ok-sum.ensures record {
       extends = extends_none _ _;
       size = length-replicate (length c.args.a.now) c.zero-zero.result;
-      shows = shows_same _ _ _ _ zeros (λ v r. ap (λ n. replicate n false) (sym (length-values v c.args.a.now)) ∙ product_none (values v c.args.a.now) (values v c.args.b.now)) }
+      shows = shows_same _ _ _ _ zeros (λ v r. ap (λ n. replicate n false) (sym (length-values v c.args.a.now)) ∙ product_none (values v c.args.a.now) (values v c.args.b.now));
+    }
 
 pub with_row-requires-clause-sum_of : goal.with_row-requires-clause-sum_of
 with_row-requires-clause-sum_of c = rw c.as_slice.ensures.value c.loop-i.invariant.shows.of
@@ -39,8 +37,8 @@ loop-i-preserved c =
       extends = extends_more _ _ _ (c.loop-i.i * (11 * length c.args.a.now)) (11 * length c.args.a.now) ((c.loop-i.i + 1) * (11 * length c.args.a.now)) c.loop-i.invariant.extends c.with_row.ensures.nodes (omega arith);
       size = c.in_ok-sum-2.ensures.length;
       shows = shows_same _ _ _ _ c.in_ok-sum-2.ensures.value (λ v r.
-        let before : Respects v c.loop-i.graph = respects_old v _ _ _ c.with_row.ensures.nodes r in
-        rw (c.as_slice.ensures.value, c.loop-i.invariant.shows.value v before, ← values_at v c.args.b.now c.loop-i.i within)
+          let before : Respects v c.loop-i.graph = respects_old v _ _ _ c.with_row.ensures.nodes r in
+          rw (c.as_slice.ensures.value, c.loop-i.invariant.shows.value v before, ← values_at v c.args.b.now c.loop-i.i within)
           (product_more (values v c.args.a.now) (values v c.args.b.now) c.loop-i.i (rw (length-values v c.args.a.now) inside) (rw (length-values v c.args.b.now) within)));
     }
 

@@ -1,7 +1,7 @@
 use Rattle.std.proofs.Common.{arith}
-use Rattle.gate_graph.proofs.GateLemmas.{respects_old, extends_more}
+use Rattle.gate_graph.proofs.GateLemmas.{respects_old}
 use Rattle.word_gates.specs.Words.{values}
-use Rattle.word_gates.proofs.WordLemmas.{extends_at, shows_one, means_same}
+use Rattle.word_gates.proofs.WordLemmas.{extends_at, means_same}
 use Rattle.word_gates.proofs.ReductionLaws.{any_is}
 use Rattle.word_gates.proofs.reductions.any_wire.Goals as goal
 

@@ -1,5 +1,5 @@
-use Rattle.std.proofs.Common.{arith, refl, length, ◌<◌, ◌≡◌, ◌+◌, ◌*◌}
-use Rattle.gate_graph.specs.Gates.{Extends, wire_value}
+use Rattle.std.proofs.Common.{arith, ◌+◌, ◌*◌}
+use Rattle.gate_graph.specs.Gates.{wire_value}
 use Rattle.gate_graph.proofs.GateLemmas.{extends_more, extends_none}
 use Rattle.word_gates.specs.Places.{place_of, gates_of}
 use Rattle.word_gates.proofs.WordLemmas.{of_at, room_at, along_more, along_start, along_all}
@@ -22,7 +22,7 @@ pub loop-i-preserved : goal.loop-i-preserved
 loop-i-preserved g c = record {
   extends = extends_more _ _ _ (c.loop-i.i * gates_of g.row.OPERATOR) (gates_of g.row.OPERATOR) ((c.loop-i.i + 1) * gates_of g.row.OPERATOR) c.loop-i.invariant.extends c.place.ensures.extends (omega arith);
   along = along_more _ _ _ _ _ _ _ _ _ c.place.ensures.extends c.loop-i.invariant.along c.in_ok-along.ensures.wire
-    (λ v. chained_more (place_of g.row.OPERATOR) v c.args.a.now c.loop-i.i (wire_value v c.loop-i.along) c.loop-i-test.true);
+      (λ v. chained_more (place_of g.row.OPERATOR) v c.args.a.now c.loop-i.i (wire_value v c.loop-i.along) c.loop-i-test.true);
 }
 
 pub returns-clause-wire : goal.returns-clause-wire

@@ -1,7 +1,6 @@
-use Rattle.std.proofs.Common.{◌*◌, drop}
+use Rattle.std.proofs.Common.{◌*◌}
 use Rattle.gate_graph.specs.Gates.{Extends, wire_value}
-use Rattle.word_gates.specs.Places.{place_of, gates_of, chained}
-use Rattle.word_gates.specs.Words.{values}
+use Rattle.word_gates.specs.Places.{place_of, gates_of}
 use Rattle.word_gates.proofs.WordLemmas.{Along}
 use Rattle.word_gates.proofs.PlaceLemmas.{chained_from}
 use Rattle.word_gates.proofs.reductions.chain.Given as goal

@@ -1,5 +1,5 @@
-use Rattle.std.proofs.Common.{arith, refl, length, ◌<◌, ◌≡◌, ◌+◌, ◌*◌}
-use Rattle.gate_graph.specs.Gates.{Extends, wire_value}
+use Rattle.std.proofs.Common.{arith, ◌+◌, ◌*◌}
+use Rattle.gate_graph.specs.Gates.{wire_value}
 use Rattle.gate_graph.proofs.GateLemmas.{extends_more, extends_none}
 use Rattle.word_gates.proofs.WordLemmas.{of_at, room_at, along_more, along_start, along_all}
 use Rattle.word_gates.proofs.RippleLemmas.{carries_more, carries_end}
@@ -24,7 +24,7 @@ pub loop-i-preserved : goal.loop-i-preserved
 loop-i-preserved c = record {
   extends = extends_more _ _ _ (c.loop-i.i * 4) 4 ((c.loop-i.i + 1) * 4) c.loop-i.invariant.extends c.carry_wire.ensures.extends (omega arith);
   along = along_more _ _ _ _ _ _ _ _ _ c.carry_wire.ensures.extends c.loop-i.invariant.along c.in_ok-carry.ensures.wire
-    (λ v. carries_more v c.args.a.now c.args.b.now c.loop-i.i (wire_value v c.loop-i.carry) c.loop-i-test.true (omega (arith, c.requires.lengths)));
+      (λ v. carries_more v c.args.a.now c.args.b.now c.loop-i.i (wire_value v c.loop-i.carry) c.loop-i-test.true (omega (arith, c.requires.lengths)));
 }
 
 pub returns-clause-wire : goal.returns-clause-wire

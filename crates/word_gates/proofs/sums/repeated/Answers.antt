@@ -1,4 +1,4 @@
-use Rattle.std.proofs.Common.{arith, refl}
+use Rattle.std.proofs.Common.{arith}
 use Rattle.word_gates.proofs.RippleLemmas.{repeated_more, repeated_end}
 use Rattle.word_gates.proofs.sums.repeated.Goals as goal
 

@@ -1,5 +1,5 @@
-use Rattle.std.proofs.Common.{arith, refl, length, length-append, ◌∷◌, [], ◌<◌, ◌≡◌, ◌+◌, ◌*◌}
-use Rattle.gate_graph.specs.Gates.{Extends, IsOf, wire_value}
+use Rattle.std.proofs.Common.{arith, refl, length-append, ◌∷◌, [], ◌+◌, ◌*◌}
+use Rattle.gate_graph.specs.Gates.{wire_value}
 use Rattle.gate_graph.proofs.GateLemmas.{extends_more, extends_none}
 use Rattle.word_gates.proofs.WordLemmas.{of_at, room_at, so_far_more, so_far_all, so_far_none}
 use Rattle.word_gates.proofs.RippleLemmas.{sums_more, sums_end}
@@ -23,7 +23,7 @@ loop-i-preserved c = rw c.in_ok-push.ensures.items record {
   carry_of = c.in_ok-wire.ensures.carry.of;
   size = omega (arith, length-append c.loop-i.wires.items (c.in_ok-wire.wire ∷ []), c.loop-i.invariant.size);
   so_far = so_far_more _ _ _ _ _ _ _ _ _ c.sum_step.ensures.extends c.loop-i.invariant.so_far c.in_ok-wire.ensures.sum
-    (λ v r. rw (c.in_ok-wire.ensures.carry.value v r) (sums_more v c.args.a.now c.args.b.now c.loop-i.i (wire_value v c.loop-i.carry) c.loop-i-test.true (omega (arith, c.requires.lengths))));
+      (λ v r. rw (c.in_ok-wire.ensures.carry.value v r) (sums_more v c.args.a.now c.args.b.now c.loop-i.i (wire_value v c.loop-i.carry) c.loop-i-test.true (omega (arith, c.requires.lengths))));
 }
 
 pub returns-clause-value : goal.returns-clause-value

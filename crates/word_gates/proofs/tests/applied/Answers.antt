@@ -1,4 +1,4 @@
-use Rattle.std.proofs.Common.{arith, length, min, ◌≤◌, ◌*◌}
+use Rattle.std.proofs.Common.{arith, length, ◌≤◌, ◌*◌}
 use Rattle.std.proofs.lemmas.Nat.{mul-le}
 use Rattle.word_gates.proofs.tests.applied.Goals as goal
 

@@ -1,4 +1,4 @@
-use Rattle.std.proofs.Common.{arith, refl, ap, length, length-append, ◌∷◌, [], ◌<◌, ◌≡◌, ◌+◌, ◌*◌, ◌++◌, ◌∙◌}
+use Rattle.std.proofs.Common.{arith, refl, ap, length, length-append, ◌∷◌, [], ◌≡◌, ◌+◌, ◌∙◌}
 use Rattle.gate_graph.proofs.GateLemmas.{keeps_more, keeps_gates, extends_none}
 use Rattle.word_gates.proofs.WordLemmas.{are_of_push, are_of_none, are_of_kept}
 use Rattle.word_gates.proofs.tests.word.Goals as goal
