@@ -1,0 +1,9 @@
+pub mod BitLemmas
+pub mod WordLemmas
+pub mod PlaceLemmas
+pub mod SumLaws
+pub mod ReductionLaws
+pub mod RippleLemmas
+pub mod MovingLaws
+pub mod ProductLaws
+pub mod MoveLemmas

@@ -1,0 +1,12 @@
+use Rattle.std.proofs.Common.{◌≡◌, ◌*◌, length}
+use Rattle.gate_graph.specs.Gates.{Extends}
+use Rattle.word_gates.specs.Words.{values, Shows}
+use Rattle.word_gates.proofs.ProductLaws.{product_upto}
+use Rattle.word_gates.proofs.products.mul.Given as goal
+
+abbrev pub invariant-loop-i : goal.invariant-loop-i
+invariant-loop-i l = record {
+  extends : Extends l.fn.graph l.graph (l.i * (11 * length l.a));
+  size : length l.sum.items ≡ length l.a;
+  shows : Shows l.graph l.sum.items (λ v. product_upto (values v l.a) (values v l.b) l.i);
+}

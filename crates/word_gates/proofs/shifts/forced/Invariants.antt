@@ -1,0 +1,12 @@
+use Rattle.std.proofs.Common.{◌≡◌, ◌*◌, ◌||◌, length}
+use Rattle.gate_graph.specs.Gates.{Extends, wire_value}
+use Rattle.word_gates.proofs.WordLemmas.{SoFar}
+use Rattle.word_gates.proofs.PlaceLemmas.{mapped_from}
+use Rattle.word_gates.proofs.shifts.forced.Given as goal
+
+abbrev pub invariant-loop-i : goal.invariant-loop-i
+invariant-loop-i l = record {
+  extends : Extends l.fn.graph l.graph (l.i * 1);
+  size : length l.wires.items ≡ l.i;
+  so_far : SoFar l.graph l.wires.items (λ v. mapped_from (λ x. x || wire_value v l.c) v l.a l.i) (λ v. mapped_from (λ x. x || wire_value v l.c) v l.a 0);
+}

@@ -1,0 +1,23 @@
+use Rattle.gate_graph.specs.Gates.{Respects}
+use Rattle.gate_graph.proofs.GateLemmas.{respects_old}
+use Rattle.word_gates.specs.Words.{values}
+use Rattle.word_gates.proofs.WordLemmas.{shows_one, same_length}
+use Rattle.word_gates.proofs.SumLaws.{less_is}
+use Rattle.word_gates.proofs.RippleLemmas.{means_inverted}
+use Rattle.word_gates.proofs.sums.less.Goals as goal
+
+pub returns-clause-value : goal.returns-clause-value
+returns-clause-value c = rw c.in_ok-wires.ensures (shows_one _ _ _ record {
+  of = (means_inverted _ _ _ c.in_ok-carry.ensures.wire.of c.inverted-wire.ensures.node c.inverted-wire.ensures.value).of;
+  value = λ v r.
+      let before : Respects v c.args.graph.now = respects_old v _ _ _ c.carry_out.ensures.nodes r in
+      rw (
+        c.inverted-wire.ensures.value v,
+        c.in_ok-carry.ensures.wire.value v r,
+        c.inverted-start.ensures.value v,
+        c.zero.ensures.value.value v before,
+        c.as_slice.ensures.value,
+        (c.in_ok-opposite.ensures.value c.args.graph.now c.requires.b_of).value v before,
+      )
+      (less_is (values v c.args.a.now) (values v c.args.b.now) (same_length v c.args.a.now c.args.b.now c.requires.lengths));
+})

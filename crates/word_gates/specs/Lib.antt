@@ -1,0 +1,4 @@
+pub mod Moving
+pub mod Places
+pub mod Ripple
+pub mod Words
