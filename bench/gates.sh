@@ -10,6 +10,8 @@ mkdir -p "$work/crates"
 cp "$here/../HANDLES" "$work/"
 cp -r "$here/../crates/gate_graph" "$work/crates/gate_graph"
 cp -r "$here/gates" "$work/crates/gates_bench"
+# the gate reads every source file of the repository, so those of this program lie here as texts
+find "$work/crates/gates_bench" -name '*.txt' | while read -r text; do mv "$text" "${text%.txt}"; done
 printf 'gate_graph:\ngates_bench: gate_graph\n' > "$work/crates.txt"
 (cd "$work/crates/gates_bench" && rt run --jobs 1 > "$work/first.txt")
 program="$(find "$work/crates/gates_bench/out" -type f -perm -u+x -name 'gates_bench*' | head -n 1)"
