@@ -1,0 +1,6 @@
+//! Descriptions in SystemRDL: their tokens and their trees.
+#![tactic(auto)]
+
+pub mod fault;
+pub mod token;
+pub mod tree;
