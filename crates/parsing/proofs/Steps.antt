@@ -1,6 +1,6 @@
 -- Small facts on outcomes, heads and lists.
 use Rattle.std.proofs.Common.{◌≡◌, ℕ, zero, suc, ◌+◌, ◌<◌, ◌≤◌, Bool, true, false, cond, ◌||◌, List, [], ◌∷◌, ◌++◌, length, Option, Some, None, Result, Ok, Err, refl, sym, ◌∙◌, ap, subst, append_assoc, length-append, arith}
-use Rattle.parsing.specs.Parser.{Fail, Refused, Sunk, Outcome, Parser, and_then, pure, seq, form, head_of, on_head, sees, expect, on, many_from, many}
+use Rattle.parsing.specs.Parser.{Fail, Refused, Sunk, Outcome, Parser, and_then, pure, seq, form, head_of, on_head, sees, expect, any_one}
 use Rattle.parsing.specs.Rule.{SameHead, Begins, Stuck, Taken}
 
 pub some_same : {A : Type 0} {x y : A} → Some x ≡ Some y → x ≡ y
@@ -67,3 +67,13 @@ form_refused into p ts rest e = rw e refl
 
 pub front_more : {Tok : Type 0} (front rest : List Tok) → length rest ≤ length (front ++ rest)
 front_more front rest = simp length-append (omega arith)
+
+pub expect_unseen : {Tok : Type 0} (test : Tok → Bool) (ts : List Tok) → sees test ts ≡ false → expect test ts ≡ Err (Refused ts)
+unfolding expect
+expect_unseen test [] e = refl
+expect_unseen test (t ∷ ts) e = rw e refl
+
+pub expect_seen : {Tok : Type 0} (test : Tok → Bool) (ts : List Tok) → sees test ts ≡ true → expect test ts ≡ expect any_one ts
+unfolding expect
+expect_seen test [] e = absurd (cc)
+expect_seen test (t ∷ ts) e = rw e refl

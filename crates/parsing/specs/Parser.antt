@@ -48,6 +48,10 @@ unfoldable pub expect : {Tok : Type 0} → (Tok → Bool) → Parser Tok Tok
 expect test [] = Err (Refused [])
 expect test (t ∷ ts) = cond (test t) (Ok (t, ts)) (Err (Refused (t ∷ ts)))
 
+-- whichever token it is
+abbrev pub any_one : {Tok : Type 0} → Tok → Bool
+any_one t = true
+
 -- the one or the other, as the next token passes the test
 abbrev pub on : {Tok A : Type 0} → (Tok → Bool) → Parser Tok A → Parser Tok A → Parser Tok A
 on test p q = λ ts. cond (sees test ts) (p ts) (q ts)
@@ -62,3 +66,8 @@ many_from test p (suc n) found = on test (λ ts. and_then (p ts) (λ x. many_fro
 
 unfoldable pub many : {Tok A : Type 0} → (Tok → Bool) → Parser Tok A → Parser Tok (List A)
 many test p = λ ts. many_from test p (length ts) [] ts
+
+-- no token is left
+unfoldable pub finish : {Tok : Type 0} → Parser Tok (Unit {0})
+finish [] = Ok (tt, [])
+finish (t ∷ ts) = Err (Refused (t ∷ ts))

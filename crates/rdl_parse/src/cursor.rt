@@ -1,0 +1,173 @@
+//! A cursor over the tokens of a description.
+
+ghost use Rattle.std.specs.Prelude.{◌≡◌, ◌++◌, ◌∷◌, [], length, bytes_eq, IfOk};
+ghost use Rattle.parsing.specs.Parser.{sees, expect, any_one, finish};
+ghost use Rattle.parsing.specs.Reads.{Reads};
+ghost use Rattle.rdl_tree.specs.Tree as tree;
+
+use parsing::stop::Stop;
+use rdl_tree::token::{RdlToken, RdlTokenKind};
+use std::alloc::{AllocError, Global};
+use std::marker::Model;
+
+/// The tokens from the next one on.
+pub struct Cursor<'a> {
+    rest: &'a [RdlToken],
+}
+
+impl<'a> Model for Cursor<'a> {
+    ghost use Rattle.std.specs.Prelude.{List};
+    ghost use Rattle.rdl_tree.specs.declared.token.RdlToken.{RdlToken};
+
+    ghost Value = { List RdlToken };
+
+    ghost view = { λ c. c.rest.now };
+}
+
+fn copy_of(alloc: Global, token: &RdlToken) -> Result<RdlToken, AllocError>
+    ensures { IfOk result (λ t. t ≡ token.now) }
+{
+    Ok(RdlToken {
+        kind: token.kind,
+        text: token.text.copy(alloc)?,
+        value: token.value,
+        place: token.place,
+    })
+}
+
+#[tactic(auto, unfolding(rdl_tree::specs::Tree::is_reserved))]
+fn is_reserved(text: &[u8]) -> bool
+    ensures { result ≡ tree.is_reserved text.now }
+{
+    text == b"addrmap".as_slice()
+        || text == b"regfile".as_slice()
+        || text == b"reg".as_slice()
+        || text == b"field".as_slice()
+        || text == b"enum".as_slice()
+        || text == b"default".as_slice()
+        || text == b"true".as_slice()
+        || text == b"false".as_slice()
+        || text == b"signal".as_slice()
+        || text == b"mem".as_slice()
+        || text == b"constraint".as_slice()
+        || text == b"struct".as_slice()
+        || text == b"external".as_slice()
+        || text == b"internal".as_slice()
+        || text == b"alias".as_slice()
+        || text == b"property".as_slice()
+        || text == b"component".as_slice()
+        || text == b"abstract".as_slice()
+        || text == b"posedge".as_slice()
+        || text == b"negedge".as_slice()
+        || text == b"bothedge".as_slice()
+        || text == b"level".as_slice()
+        || text == b"nonsticky".as_slice()
+}
+
+fn is_name(token: &RdlToken) -> bool
+    ensures { result ≡ tree.is_name token.now }
+{
+    token.kind == RdlTokenKind::Word && !is_reserved(token.text.as_bytes())
+}
+
+impl<'a> Cursor<'a> {
+    pub fn new(tokens: &'a [RdlToken]) -> Cursor<'a>
+        ensures { result ≡ tokens.now }
+    {
+        Cursor { rest: tokens }
+    }
+
+    /// How many tokens are left.
+    pub fn len(&self) -> usize
+        ensures { result ≡ length self.now }
+    {
+        self.rest.len()
+    }
+
+    pub fn sees_text(&self, bytes: &[u8]) -> bool
+        ensures { result ≡ sees (tree.is_text bytes.now) self.now }
+    {
+        match self.rest {
+            [] => false,
+            [token, ..] => token.text.as_bytes() == bytes,
+        }
+    }
+
+    pub fn sees_kind(&self, kind: RdlTokenKind) -> bool
+        ensures { result ≡ sees (tree.is_kind kind) self.now }
+    {
+        match self.rest {
+            [] => false,
+            [token, ..] => token.kind == kind,
+        }
+    }
+
+    pub fn sees_name(&self) -> bool
+        ensures { result ≡ sees tree.is_name self.now }
+    {
+        match self.rest {
+            [] => false,
+            [token, ..] => is_name(token),
+        }
+    }
+
+    /// Takes the next token.
+    #[tactic(auto, unfolding(parsing::specs::Parser::expect))]
+    fn next(&mut self, alloc: Global) -> Result<RdlToken, Stop>
+        ensures { Reads (expect any_one self.old) result self.new }
+    {
+        match self.rest.split_first() {
+            None => Err(Stop::Refused),
+            Some((token, rest)) => {
+                let taken = copy_of(alloc, token)?;
+                self.rest = rest;
+                Ok(taken)
+            }
+        }
+    }
+
+    /// Takes the next token, which has to be the mark or the word with these bytes.
+    #[tactic(auto, using(parsing::proofs::Steps::expect_seen, parsing::proofs::Steps::expect_unseen))]
+    pub fn text(&mut self, alloc: Global, bytes: &[u8]) -> Result<RdlToken, Stop>
+        ensures { Reads (expect (tree.is_text bytes.now) self.old) result self.new }
+    {
+        if !self.sees_text(bytes) {
+            return Err(Stop::Refused);
+        }
+        self.next(alloc)
+    }
+
+    /// Takes the next token, which has to be of this kind.
+    #[tactic(auto, using(parsing::proofs::Steps::expect_seen, parsing::proofs::Steps::expect_unseen))]
+    pub fn kind(&mut self, alloc: Global, kind: RdlTokenKind) -> Result<RdlToken, Stop>
+        ensures { Reads (expect (tree.is_kind kind) self.old) result self.new }
+    {
+        if !self.sees_kind(kind) {
+            return Err(Stop::Refused);
+        }
+        self.next(alloc)
+    }
+
+    /// Takes the next token, which has to be a name.
+    #[tactic(auto, using(parsing::proofs::Steps::expect_seen, parsing::proofs::Steps::expect_unseen))]
+    pub fn name(&mut self, alloc: Global) -> Result<RdlToken, Stop>
+        ensures { Reads (expect tree.is_name self.old) result self.new }
+    {
+        if !self.sees_name() {
+            return Err(Stop::Refused);
+        }
+        self.next(alloc)
+    }
+
+    /// The end.
+    #[tactic(auto, unfolding(parsing::specs::Parser::finish))]
+    pub fn finish(&self) -> Result<(), Stop>
+        ensures { Reads (finish self.now) result self.now }
+    {
+        if self.rest.is_empty() {
+            Ok(())
+        } else {
+            Err(Stop::Refused)
+        }
+    }
+}

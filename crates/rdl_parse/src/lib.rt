@@ -1,0 +1,7 @@
+//! The parser of descriptions: from tokens to the one tree that they spell.
+#![tactic(auto)]
+
+mod cursor;
+mod instances;
+mod items;
+mod properties;
