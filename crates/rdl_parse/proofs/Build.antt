@@ -112,3 +112,11 @@ fitting_rule H into from reading = record { rule = fit_rule H into from reading.
 pub wider_rule : {A : Type 0} {room more : ℕ} {S N : List ℕ} {p q : Parser RdlToken A} {f : A → Tokens} {G : A → Type 0} (S' N' : List ℕ)
     → subset S S' ≡ true → subset N' N ≡ true → Reading room more S N p q f G → Reading room more S' N' p q f G
 wider_rule {S = S} {N = N} S' N' sub sub' reading = record { rule = weaker_rule (heads_within S S' sub) (heads_within N' N sub') reading.rule }
+
+-- the trees that come of those that fit
+abbrev pub Image : {A B : Type 0} → (A → B) → (A → Type 0) → B → Type 0
+Image {A} into G b = (a : A) × ((into a ≡ b) × G a)
+
+pub image_rule : {A B : Type 0} {room more : ℕ} {S N : List ℕ} {p p' : Parser RdlToken A} {f : A → Tokens} {G : A → Type 0} (into : A → B) (g : B → Tokens) → ((a : A) → G a → g (into a) ≡ f a)
+    → Reading room more S N p p' f G → Reading room more S N (form into p) (form into p') g (Image into G)
+image_rule {G = G} into g same reading = as_rule into g (Image into G) (λ a fits. (same a fits, (a, (refl, fits)))) (λ b h. h) reading

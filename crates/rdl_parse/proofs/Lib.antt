@@ -1,2 +1,4 @@
 pub mod Sorts
 pub mod Build
+pub mod Tokens
+pub mod Rows
