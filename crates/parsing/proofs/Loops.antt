@@ -127,11 +127,12 @@ module _ {Tok A : Type 0} (test : Tok → Bool) (q : Parser Tok A) (f : A → Li
   many_follows room ts (Err Sunk) h = h
 
   many_begins : (room more : ℕ) (First Next Next' : Heads Tok) (p : Parser Tok A) → Rule room more First Next' p q f G → Within (either First Next) Next'
-    → (ys : List A) → Each G ys → (zs : List Tok) → Next (head_of zs) ≡ true → either First Next (head_of (joined f ys ++ zs)) ≡ true
+    → (ys : List A) → Each G ys → length (joined f ys) < more → (zs : List Tok) → Next (head_of zs) ≡ true → either First Next (head_of (joined f ys ++ zs)) ≡ true
   unfolding Within
-  many_begins room more First Next Next' p rule within [] each zs next = either_right _ _ next
-  many_begins room more First Next Next' p rule within (y ∷ ys) each zs next =
-      rw append_assoc (either_left _ _ (rule.begins y each.0 (joined f ys ++ zs) (within _ (many_begins room more First Next Next' p rule within ys each.1 zs next))))
+  many_begins room more First Next Next' p rule within [] each short zs next = either_right _ _ next
+  many_begins room more First Next Next' p rule within (y ∷ ys) each short zs next =
+      let whole : length (f y ++ joined f ys) ≡ length (f y) + length (joined f ys) = simp length-append in
+      rw append_assoc (either_left _ _ (rule.begins y each.0 (omega arith) (joined f ys ++ zs) (within _ (many_begins room more First Next Next' p rule within ys each.1 (omega arith) zs next))))
 
   many_reads : (room more : ℕ) (First Next Next' : Heads Tok) (p : Parser Tok A) → Rule room more First Next' p q f G → Within First (on_head test) → Without Next test → Within (either First Next) Next'
     → ((a : A) → G a → 0 < length (f a))
@@ -147,8 +148,8 @@ module _ {Tok A : Type 0} (test : Tok → Bool) (q : Parser Tok A) (f : A → Li
       let whole2 : length (f y ++ joined f ys) ≡ length (f y) + length (joined f ys) = simp length-append in
       let part : length (joined f ys ++ zs) ≡ length (joined f ys) + length zs = simp length-append in
       let some : 0 < length (f y) = nonempty y each.0 in
-      let after : Next' (head_of (joined f ys ++ zs)) ≡ true = within _ (many_begins room more First Next Next' p rule within ys each.1 zs next) in
-      let see : sees test (f y ++ (joined f ys ++ zs)) ≡ true = seen _ (rule.begins y each.0 (joined f ys ++ zs) after) in
+      let after : Next' (head_of (joined f ys ++ zs)) ≡ true = within _ (many_begins room more First Next Next' p rule within ys each.1 (omega arith) zs next) in
+      let see : sees test (f y ++ (joined f ys ++ zs)) ≡ true = seen _ (rule.begins y each.0 (omega arith) (joined f ys ++ zs) after) in
       let again = many_reads room more First Next Next' p rule seen unseen within nonempty m (found ++ y ∷ []) ys each.1 (omega arith) zs next (omega arith) in
       rw append_assoc (turns m found (f y ++ (joined f ys ++ zs)) (joined f ys ++ zs) y see (rule.reads y each.0 (omega arith) (joined f ys ++ zs) after) ∙ rw append_assoc at again)
 

@@ -31,7 +31,7 @@ module _ {Tok : Type 0} (test : Tok → Bool) where
     fits = is;
     follows = expect_follows room some is;
     reads = λ t e short zs next. expect_is t zs e;
-    begins = λ t e zs next. e;
+    begins = λ t e short zs next. e;
   }
 
 -- ---- one rule after another
@@ -75,9 +75,14 @@ seq_rule_by {room = room} {more = more} {space = space} {less = less} {p = p} {p
       let short1 : length (f ab.0) < more = omega arith in
       let short2 : length (g ab.1) < less = omega arith in
       rw append_assoc (seq_ok p' k' _ _ _ ab.0 ab.1
-        (first.reads ab.0 fits.0 short1 (g ab.1 ++ zs) (within _ ((second ab.0).begins ab.1 fits.1 zs next)))
+        (first.reads ab.0 fits.0 short1 (g ab.1 ++ zs) (within _ ((second ab.0).begins ab.1 fits.1 short2 zs next)))
         ((second ab.0).reads ab.1 fits.1 short2 zs next));
-  begins = λ ab fits zs next. rw append_assoc (first.begins ab.0 fits.0 (g ab.1 ++ zs) (within _ ((second ab.0).begins ab.1 fits.1 zs next)));
+  begins = λ ab fits short zs next.
+      let long : length (f ab.0 ++ g ab.1) ≡ length (f ab.0) + length (g ab.1) = length-append (f ab.0) (g ab.1) in
+      let bound : more ≤ less + length (f ab.0) = gap' ab.0 fits.0 in
+      let short1 : length (f ab.0) < more = omega arith in
+      let short2 : length (g ab.1) < less = omega arith in
+      rw append_assoc (first.begins ab.0 fits.0 short1 (g ab.1 ++ zs) (within _ ((second ab.0).begins ab.1 fits.1 short2 zs next)));
 }
 
 pub seq_rule : {Tok A B : Type 0} {room more : ℕ} {First Next First' Next' : Heads Tok} {p p' : Parser Tok A} {k k' : A → Parser Tok B} {f : A → List Tok} {g : B → List Tok} {G : A → Type 0} {H : A → B → Type 0}
@@ -115,10 +120,11 @@ form_rule {Tok = Tok} {B = B} {more = more} {First = First} {Next = Next} {p = p
       let short' : length (f from.0) < more = rw (← e) short in
       let whole : B → Outcome Tok B = λ x. Ok (x, zs) in
       rw e (form_ok into p' _ _ from.0 (rule.reads from.0 from.1.1 short' zs next) ∙ ap whole from.1.0);
-  begins = λ b fits zs next.
+  begins = λ b fits short zs next.
       let from = covers b fits in
       let e : g b ≡ f from.0 = ap g (sym from.1.0) ∙ (same from.0 from.1.1).0 in
-      rw e (rule.begins from.0 from.1.1 zs next);
+      let short' : length (f from.0) < more = rw (← e) short in
+      rw e (rule.begins from.0 from.1.1 short' zs next);
 }
 
 -- ---- one rule or another, by the next token
@@ -152,13 +158,13 @@ module _ {Tok A : Type 0} (test : Tok → Bool) (p' q' : Parser Tok A) (f : A �
   on_reads : (more : ℕ) (First First' Next : Heads Tok) (p q : Parser Tok A) (room : ℕ) → Rule room more First Next p p' f G → Rule room more First' Next q q' f H → Within First (on_head test) → Without First' test
     → (a : A) → G a ⊎ H a → length (f a) < more → (zs : List Tok) → Next (head_of zs) ≡ true → on test p' q' (f a ++ zs) ≡ Ok (a, zs)
   unfolding Within Without
-  on_reads more First First' Next p q room left right seen unseen a (inl fits) short zs next = on_yes _ (seen _ (left.begins a fits zs next)) ∙ left.reads a fits short zs next
-  on_reads more First First' Next p q room left right seen unseen a (inr fits) short zs next = on_no _ (unseen _ (right.begins a fits zs next)) ∙ right.reads a fits short zs next
+  on_reads more First First' Next p q room left right seen unseen a (inl fits) short zs next = on_yes _ (seen _ (left.begins a fits short zs next)) ∙ left.reads a fits short zs next
+  on_reads more First First' Next p q room left right seen unseen a (inr fits) short zs next = on_no _ (unseen _ (right.begins a fits short zs next)) ∙ right.reads a fits short zs next
 
   on_begins : (more : ℕ) (First First' Next : Heads Tok) (p q : Parser Tok A) (room : ℕ) → Rule room more First Next p p' f G → Rule room more First' Next q q' f H
-    → (a : A) → G a ⊎ H a → (zs : List Tok) → Next (head_of zs) ≡ true → (First (head_of (f a ++ zs)) || First' (head_of (f a ++ zs))) ≡ true
-  on_begins more First First' Next p q room left right a (inl fits) zs next = either_left _ _ (left.begins a fits zs next)
-  on_begins more First First' Next p q room left right a (inr fits) zs next = either_right _ _ (right.begins a fits zs next)
+    → (a : A) → G a ⊎ H a → length (f a) < more → (zs : List Tok) → Next (head_of zs) ≡ true → (First (head_of (f a ++ zs)) || First' (head_of (f a ++ zs))) ≡ true
+  on_begins more First First' Next p q room left right a (inl fits) short zs next = either_left _ _ (left.begins a fits short zs next)
+  on_begins more First First' Next p q room left right a (inr fits) short zs next = either_right _ _ (right.begins a fits short zs next)
 
 pub on_rule : {Tok A : Type 0} {room more : ℕ} {First First' Next : Heads Tok} {p p' q q' : Parser Tok A} {f : A → List Tok} {G H : A → Type 0} (test : Tok → Bool)
     → Rule room more First Next p p' f G → Rule room more First' Next q q' f H → Within First (on_head test) → Without First' test
@@ -179,7 +185,7 @@ pure_rule {Tok} {A} room more Next a f none = record {
   fits = refl;
   follows = λ ts. (rw none refl, (refl, λ zs s. rw none refl));
   reads = λ x fits short zs next. let whole : A → Outcome Tok A = λ y. Ok (y, zs) in rw (fits, none) refl;
-  begins = λ x fits zs next. rw (fits, none) next;
+  begins = λ x fits short zs next. rw (fits, none) next;
 }
 
 -- ---- other bounds, other words for fitting, and no room
@@ -192,7 +198,7 @@ weaker_rule wider narrower rule = record {
   fits = rule.fits;
   follows = rule.follows;
   reads = λ a fits short zs next. rule.reads a fits short zs (narrower _ next);
-  begins = λ a fits zs next. wider _ (rule.begins a fits zs (narrower _ next));
+  begins = λ a fits short zs next. wider _ (rule.begins a fits short zs (narrower _ next));
 }
 
 module _ {Tok A : Type 0} (q : Parser Tok A) (f : A → List Tok) (G H : A → Type 0) (into : (a : A) → G a → H a) where
@@ -209,7 +215,7 @@ fit_rule {room = room} {p = p} {q = q} {f = f} {G = G} H into from rule = record
   fits = into rule.some rule.fits;
   follows = λ ts. fit_follows q f G H into room ts (p ts) (rule.follows ts);
   reads = λ a fits short zs next. rule.reads a (from a fits) short zs next;
-  begins = λ a fits zs next. rule.begins a (from a fits) zs next;
+  begins = λ a fits short zs next. rule.begins a (from a fits) short zs next;
 }
 
 -- without room nothing is claimed but that there is none
@@ -223,14 +229,13 @@ sunk_rule rule = record {
   begins = rule.begins;
 }
 
-pub no_room_rule : {Tok A : Type 0} {First Next : Heads Tok} {f : A → List Tok} {G : A → Type 0} (some : A) → G some
-    → ((a : A) → G a → (zs : List Tok) → Next (head_of zs) ≡ true → First (head_of (f a ++ zs)) ≡ true) → Rule 0 0 First Next sunk sunk f G
-no_room_rule some fits begins = record {
+pub no_room_rule : {Tok A : Type 0} {First Next : Heads Tok} {f : A → List Tok} {G : A → Type 0} (some : A) → G some → Rule 0 0 First Next sunk sunk f G
+no_room_rule some fits = record {
   some = some;
   fits = fits;
   follows = λ ts. omega arith;
   reads = λ a fit short zs next. absurd (omega arith);
-  begins = begins;
+  begins = λ a fit short zs next. absurd (omega arith);
 }
 
 -- ---- a part that may be absent

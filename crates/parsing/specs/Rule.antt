@@ -75,4 +75,4 @@ pub record Rule {Tok A : Type 0} (room more : ℕ) (First Next : Heads Tok) (p q
   pub follows : (ts : List Tok) → Follows room q flat Fits ts (p ts)
   -- complete
   pub reads : (a : A) → Fits a → length (flat a) < more → (zs : List Tok) → Next (head_of zs) ≡ true → q (flat a ++ zs) ≡ Ok (a, zs)
-  pub begins : (a : A) → Fits a → (zs : List Tok) → Next (head_of zs) ≡ true → First (head_of (flat a ++ zs)) ≡ true
+  pub begins : (a : A) → Fits a → length (flat a) < more → (zs : List Tok) → Next (head_of zs) ≡ true → First (head_of (flat a ++ zs)) ≡ true

@@ -41,6 +41,12 @@ pub then_rule : {A B : Type 0} {room more : ℕ} {S N S' N' : List ℕ} {p p' : 
     → Reading {A = A × B} room more S N' (seq p k) (seq p' k') (λ ab. f ab.0 ++ g ab.1) (λ ab. G ab.0 × H ab.0 ab.1)
 then_rule {N = N} {S' = S'} sub first second = record { rule = seq_rule first.rule (λ a. (second a).rule) (heads_within S' N sub) }
 
+-- the first takes a token, so what comes after it needs less room
+pub then_step_rule : {A B : Type 0} {room more : ℕ} {S N S' N' : List ℕ} {p p' : Parser RdlToken A} {k k' : A → Parser RdlToken B} {f : A → Tokens} {g : B → Tokens} {G : A → Type 0} {H : A → B → Type 0}
+    → subset S' N ≡ true → ((a : A) → G a → 0 < length (f a)) → Reading (suc room) (suc more) S N p p' f G → ((a : A) → Reading room more S' N' (k a) (k' a) g (H a))
+    → Reading {A = A × B} (suc room) (suc more) S N' (seq p k) (seq p' k') (λ ab. f ab.0 ++ g ab.1) (λ ab. G ab.0 × H ab.0 ab.1)
+then_step_rule {N = N} {S' = S'} sub some first second = record { rule = seq_step_rule some first.rule (λ a. (second a).rule) (heads_within S' N sub) }
+
 -- ---- a part that may be absent
 
 absent_flat : {A : Type 0} (f : A → Tokens) (o : Option A) → if_any f o ≡ flat_option f o

@@ -2,3 +2,5 @@ pub mod Sorts
 pub mod Build
 pub mod Tokens
 pub mod Rows
+pub mod Folds
+pub mod Nested

@@ -389,3 +389,15 @@ among_either (s ∷ S) U k e = either_first (k == s) (among S k) (among U k) (am
 pub either_within : (S U : List ℕ) → Within (either (heads S) (heads U)) (heads (S ++ U))
 unfolding Within
 either_within S U h e = among_either S U (sort_at h) e
+
+among_append : (S U : List ℕ) (k : ℕ) → among (S ++ U) k ≡ (among S k || among U k)
+among_append [] U k = refl
+among_append (s ∷ S) U k = rw (among_append S U k) (regroup (k == s) (among S k) (among U k))
+  where
+    regroup : (a b c : Bool) → (a || (b || c)) ≡ ((a || b) || c)
+    regroup true b c = refl
+    regroup false b c = refl
+
+pub sorted_or : (test test' : RdlToken → Bool) (S U : List ℕ) → Sorted test S → Sorted test' U → Sorted (λ t. test t || test' t) (S ++ U)
+unfolding Sorted
+sorted_or test test' S U sorted sorted' t = rw (sorted t, sorted' t) (sym (among_append S U (sort_of t)))
