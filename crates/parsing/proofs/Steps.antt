@@ -1,5 +1,8 @@
 -- Small facts on outcomes, heads and lists.
 use Rattle.std.proofs.Common.{◌≡◌, ℕ, zero, suc, ◌+◌, ◌<◌, ◌≤◌, Bool, true, false, cond, ◌||◌, List, [], ◌∷◌, ◌++◌, length, Option, Some, None, Result, Ok, Err, refl, sym, ◌∙◌, ap, subst, append_assoc, length-append, arith}
+use Rattle.parsing.specs.declared.stop.Stop.{Stop}
+use Rattle.parsing.specs.declared.stop.Stop.TheVariants as stop
+use Rattle.parsing.specs.Reads.{Reads}
 use Rattle.parsing.specs.Parser.{Fail, Refused, Sunk, Outcome, Parser, and_then, pure, seq, form, head_of, on_head, sees, expect, any_one}
 use Rattle.parsing.specs.Rule.{SameHead, Begins, Stuck, Taken}
 
@@ -77,3 +80,16 @@ pub expect_seen : {Tok : Type 0} (test : Tok → Bool) (ts : List Tok) → sees 
 unfolding expect
 expect_seen test [] e = absurd (cc)
 expect_seen test (t ∷ ts) e = rw e refl
+
+pub same_refl : {Tok : Type 0} (xs : List Tok) → SameHead xs xs
+unfolding SameHead
+same_refl xs = refl
+
+pub reads_ok : {Tok A : Type 0} (o : Outcome Tok A) (r : Result A Stop) (after : List Tok) (a : A) → Reads o r after → r ≡ Ok a → o ≡ Ok (a, after)
+reads_ok o r after a h e = rw e at h
+
+pub reads_refused : {Tok A : Type 0} (o : Outcome Tok A) (r : Result A Stop) (after : List Tok) (s : Stop) → Reads o r after → r ≡ Err s → s ≡ stop.Refused → o ≡ Err (Refused after)
+reads_refused {A = A} o r after s h e i = let wrap : Stop → Result A Stop = λ x. Err x in let j : r ≡ Err stop.Refused = e ∙ ap wrap i in rw j at h
+
+pub reads_sunk : {Tok A : Type 0} (o : Outcome Tok A) (r : Result A Stop) (after : List Tok) (s : Stop) → Reads o r after → r ≡ Err s → s ≡ stop.Sunk → o ≡ Err Sunk
+reads_sunk {A = A} o r after s h e i = let wrap : Stop → Result A Stop = λ x. Err x in let j : r ≡ Err stop.Sunk = e ∙ ap wrap i in rw j at h

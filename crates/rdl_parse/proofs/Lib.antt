@@ -4,3 +4,6 @@ pub mod Tokens
 pub mod Rows
 pub mod Folds
 pub mod Nested
+pub mod Theorem
+pub mod Deep
+pub mod Faults

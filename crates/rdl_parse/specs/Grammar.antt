@@ -1,5 +1,6 @@
 -- The grammar as a function on lists of tokens, rule by rule. Each choice goes by the next token.
 use Rattle.std.specs.Prelude.{ℕ, zero, suc, Bool, ◌||◌, List, [], ◌∷◌, Option, Some, None, codes}
+use Rattle.bit_base.specs.declared.place.Place.{Place}
 use Rattle.parsing.specs.Parser.{Parser, seq, form, expect, on, optional, many, sunk, finish}
 use Rattle.rdl_tree.specs.declared.token.RdlTokenKind.TheVariants.{Num, Str}
 use Rattle.rdl_tree.specs.declared.token.RdlToken.{RdlToken}
@@ -219,3 +220,8 @@ items (suc room) = many begins_item (item_of (items room))
 -- all the tokens
 unfoldable pub whole : ℕ → Reader (List RdlItem)
 whole room = form (λ p. p.0) (seq (items room) (λ _. finish))
+
+-- where the next token stands, or the end
+abbrev pub place_of : List RdlToken → Place → Place
+place_of [] end = end
+place_of (t ∷ ts) end = t.place

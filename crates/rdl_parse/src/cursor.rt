@@ -3,14 +3,17 @@
 ghost use Rattle.std.specs.Prelude.{◌≡◌, ◌++◌, ◌∷◌, [], length, bytes_eq, IfOk};
 ghost use Rattle.parsing.specs.Parser.{sees, expect, any_one, finish};
 ghost use Rattle.parsing.specs.Reads.{Reads};
+ghost use Rattle.rdl_parse.specs.Grammar.{place_of};
 ghost use Rattle.rdl_tree.specs.Tree as tree;
 
+use bit_base::place::Place;
 use parsing::stop::Stop;
 use rdl_tree::token::{RdlToken, RdlTokenKind};
 use std::alloc::{AllocError, Global};
 use std::marker::Model;
 
 /// The tokens from the next one on.
+#[derive(Drop)]
 pub struct Cursor<'a> {
     rest: &'a [RdlToken],
 }
@@ -168,6 +171,16 @@ impl<'a> Cursor<'a> {
             Ok(())
         } else {
             Err(Stop::Refused)
+        }
+    }
+
+    /// Where the next token stands, or `end` where there is none.
+    pub fn place(&self, end: Place) -> Place
+        ensures { result ≡ place_of self.now end }
+    {
+        match self.rest {
+            [] => end,
+            [token, ..] => token.place,
         }
     }
 }

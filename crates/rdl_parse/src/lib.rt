@@ -5,3 +5,6 @@ mod cursor;
 mod instances;
 mod items;
 mod properties;
+mod reading;
+
+pub use reading::{at_most_one_reading, parse_rdl};
