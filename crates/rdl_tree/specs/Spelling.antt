@@ -1,6 +1,6 @@
 -- How tokens, blanks and comments are spelled (SystemRDL 2.0, clause 4, "Lexical conventions"), as tests of a whole text.
-use Rattle.std.specs.Prelude.{ℕ, ◌+◌, ◌-◌, ◌*◌, ◌^◌, Bool, true, false, ◌&&◌, ◌||◌, not, ◌==◌, nat_lt, nat_le, if◌then◌else◌, List, [], ◌∷◌, drop, fold, codes}
-use Rattle.std.specs.List.{list_all, list_any}
+use Rattle.std.specs.Prelude.{ℕ, ◌+◌, ◌-◌, ◌*◌, ◌^◌, Bool, true, false, ◌&&◌, ◌||◌, not, ◌==◌, nat_lt, nat_le, if◌then◌else◌, List, [], ◌∷◌, take, drop, fold, codes}
+use Rattle.std.specs.List.{list_all, list_any, prefix_len}
 use Rattle.rdl_tree.specs.declared.token.RdlTokenKind.{RdlTokenKind}
 use Rattle.rdl_tree.specs.declared.token.RdlTokenKind.TheVariants.{Word, Num, Str, Mark}
 
@@ -54,13 +54,14 @@ is_hexadecimal (zero_digit ∷ mark ∷ digits) = (zero_digit == 48) && ((mark =
 is_hexadecimal _ = false
 
 -- The parts of a number with a size, `W'dN`, `W'hN`, `W'bN` or `W'oN`: what stands before the first `'`, and what stands after it.
+abbrev pub is_in_size : ℕ → Bool
+is_in_size b = not (b == 39)
+
 abbrev pub size_of : List ℕ → List ℕ
-size_of [] = []
-size_of (b ∷ bs) = if b == 39 then [] else b ∷ size_of bs
+size_of w = take (prefix_len is_in_size w) w
 
 abbrev pub after_size : List ℕ → List ℕ
-after_size [] = []
-after_size (b ∷ bs) = if b == 39 then bs else after_size bs
+after_size w = drop (prefix_len is_in_size w + 1) w
 
 -- The base that a letter stands for; 0, in which no byte is a digit, for other bytes.
 abbrev pub base_of : ℕ → ℕ
@@ -113,9 +114,15 @@ is_string [] = false
 is_string (b ∷ bs) = (b == 34) && ends_at_first closes_string 34 bs
 
 -- Marks of one byte, `{ } [ ] ; , = : @ .`, and of two, `-> += %=`.
+abbrev pub is_mark_byte : ℕ → Bool
+is_mark_byte b = is_among (codes "{}[];,=:@.") b
+
+abbrev pub is_mark_pair : ℕ → ℕ → Bool
+is_mark_pair b c = ((b == 45) && (c == 62)) || ((b == 43) && (c == 61)) || ((b == 37) && (c == 61))
+
 abbrev pub is_mark : List ℕ → Bool
-is_mark (b ∷ []) = is_among (codes "{}[];,=:@.") b
-is_mark (b ∷ c ∷ []) = ((b == 45) && (c == 62)) || ((b == 43) && (c == 61)) || ((b == 37) && (c == 61))
+is_mark (b ∷ []) = is_mark_byte b
+is_mark (b ∷ c ∷ []) = is_mark_pair b c
 is_mark _ = false
 
 -- A token of a kind.
@@ -142,9 +149,12 @@ is_token kind w value = is_spelled kind w && token_fits kind w && (value == toke
 abbrev pub is_blank : ℕ → Bool
 is_blank b = (b == 32) || (b == 9) || (b == 13) || (b == 10)
 
+abbrev pub is_in_line : ℕ → Bool
+is_in_line b = not (b == 10)
+
 -- 4.2, comments: `//` to the end of the line, which isn't part of it, and `/*` to the next `*/`.
 abbrev pub is_line_comment : List ℕ → Bool
-is_line_comment (b ∷ c ∷ bs) = (b == 47) && (c == 47) && list_all (λ d. not (d == 10)) bs
+is_line_comment (b ∷ c ∷ bs) = (b == 47) && (c == 47) && list_all is_in_line bs
 is_line_comment _ = false
 
 abbrev pub closes_comment : ℕ → ℕ → Bool

@@ -1,6 +1,7 @@
 //! Refusals of a description.
 
 use bit_base::place::Place;
+use std::alloc::AllocError;
 use thiserror::Error;
 
 /// What is wrong with a description. The variants stand in the order of their numbers, 101 to 109.
@@ -34,4 +35,15 @@ pub enum RdlFault {
     /// The refusal `code` at `place`; a refusal of the whole description is at line 0, column 0.
     #[error("{code:?} at {place:?}")]
     At { code: RdlCode, place: Place },
+}
+
+impl From<AllocError> for RdlFault {
+    ghost use Rattle.std.specs.Prelude.{◌≡◌};
+    ghost use Rattle.rdl_tree.specs.declared.fault.RdlFault.TheVariants.{NoMemory};
+
+    ghost from_gives = { λ _ e. e ≡ NoMemory };
+
+    fn from(_: AllocError) -> RdlFault {
+        RdlFault::NoMemory
+    }
 }

@@ -1,6 +1,15 @@
 //! Descriptions in SystemRDL: their tokens and their trees.
 #![tactic(auto)]
 
+mod bytes;
 pub mod fault;
+mod lengths;
+mod numbers;
+pub mod piece;
+mod places;
+pub mod reserved;
+pub mod scan;
+#[cfg(test)]
+mod tests;
 pub mod token;
 pub mod tree;

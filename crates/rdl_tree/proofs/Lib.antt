@@ -1,0 +1,10 @@
+pub mod Loops
+pub mod Values
+pub mod Sizes
+pub mod Tokens
+pub mod Digits
+pub mod NumberLengths
+pub mod Longest
+pub mod PlaceSteps
+pub mod Scanning
+pub mod Answers
