@@ -50,8 +50,8 @@ module _ {Tok A : Type 0} (test : Tok → Bool) (q : Parser Tok A) (f : A → Li
   loop_ends room found ts each e = ([], (refl, (sym (append-nil (joined f found)), (each, λ zs s m long. stops m found zs (sym (same_sees test ts zs s) ∙ e)))))
 
   next_turn : (found : List A) (ts r1 : List Tok) (x : A) (front rest zs : List Tok) → sees test ts ≡ true → 0 < length (f x) → ts ≡ f x ++ r1 → r1 ≡ front ++ rest
-    → ((us : List Tok) → SameHead r1 us → q (f x ++ us) ≡ Ok (x, us)) → SameHead rest zs → (m : ℕ) → length (f x ++ front ++ zs) ≤ m → (o : Outcome Tok (List A))
-    → ((m2 : ℕ) → length (front ++ zs) ≤ m2 → many_from test q m2 (found ++ x ∷ []) (front ++ zs) ≡ o) → many_from test q m found (f x ++ front ++ zs) ≡ o
+      → ((us : List Tok) → SameHead r1 us → q (f x ++ us) ≡ Ok (x, us)) → SameHead rest zs → (m : ℕ) → length (f x ++ front ++ zs) ≤ m → (o : Outcome Tok (List A))
+      → ((m2 : ℕ) → length (front ++ zs) ≤ m2 → many_from test q m2 (found ++ x ∷ []) (front ++ zs) ≡ o) → many_from test q m found (f x ++ front ++ zs) ≡ o
   next_turn found ts r1 x front rest zs e some split split2 same s zero long o ih =
       let whole : length (f x ++ front ++ zs) ≡ length (f x) + length front + length zs = simp length-append in absurd (omega arith)
   next_turn found ts r1 x front rest zs e some split split2 same s (suc m) long o ih =
@@ -63,13 +63,29 @@ module _ {Tok A : Type 0} (test : Tok → Bool) (q : Parser Tok A) (f : A → Li
 
   loop_next : (room : ℕ) (found : List A) (ts r1 : List Tok) (x : A) → sees test ts ≡ true → 0 < length (f x) → Taken q f G ts x r1 → (o : Outcome Tok (List A)) → LoopFollows room (found ++ x ∷ []) r1 o → LoopFollows room found ts o
   unfolding LoopFollows LoopTaken LoopStuck Taken
-  loop_next room found ts r1 x e some (split, (fits, same)) (Ok (ys, rest)) (front, (split2, (taken, (all, same2)))) =
-      (f x ++ front, (rw (split, split2, append_assoc) refl, (rw (taken, joined-one f found x) (simp append_assoc), (all,
-        λ zs s m long. next_turn found ts r1 x front rest zs e some split split2 same s m long (Ok (ys, zs)) (same2 zs s)))))
-  loop_next room found ts r1 x e some (split, (fits, same)) (Err (Refused rest)) (front, (split2, (same2, (ys, (all, (more, begun)))))) =
-      (f x ++ front, (rw (split, split2, append_assoc) refl,
-        ((λ zs s m long. next_turn found ts r1 x front rest zs e some split split2 same s m long (Err (Refused zs)) (same2 zs s)),
-         (ys, (all, (more, rw (begun, joined-one f found x) (simp append_assoc)))))))
+  loop_next room found ts r1 x e some (split, (fits, same)) (Ok (ys, rest)) (front, (split2, (taken, (all, same2)))) = (
+    f x ++ front,
+    (
+      rw (split, split2, append_assoc) refl,
+      (
+        rw (taken, joined-one f found x) (simp append_assoc),
+        (
+          all,
+          λ zs s m long. next_turn found ts r1 x front rest zs e some split split2 same s m long (Ok (ys, zs)) (same2 zs s),
+        ),
+      ),
+    ),
+  )
+  loop_next room found ts r1 x e some (split, (fits, same)) (Err (Refused rest)) (front, (split2, (same2, (ys, (all, (more, begun)))))) = (
+    f x ++ front,
+    (
+      rw (split, split2, append_assoc) refl,
+      (
+        (λ zs s m long. next_turn found ts r1 x front rest zs e some split split2 same s m long (Err (Refused zs)) (same2 zs s)),
+        (ys, (all, (more, rw (begun, joined-one f found x) (simp append_assoc)))),
+      ),
+    ),
+  )
   loop_next room found ts r1 x e some (split, (fits, same)) (Err Sunk) h =
       let long : length ts ≡ length (f x) + length r1 = rw split (length-append (f x) r1) in omega arith
 
@@ -81,9 +97,16 @@ module _ {Tok A : Type 0} (test : Tok → Bool) (q : Parser Tok A) (f : A → Li
 
   loop_refused : (found : List A) (ts rest : List Tok) → Each G found → sees test ts ≡ true → Stuck q f G ts rest → LoopStuck found ts rest
   unfolding LoopStuck Stuck Begins
-  loop_refused found ts rest each e (front, (split, (same, (x, (fits, (more, begun)))))) =
-      (front, (split, ((λ zs s m long. refused_turn found ts front rest zs e split (same zs s) s m long),
-        (found ++ x ∷ [], (each-one G found x each fits, (more, rw (joined-one f found x, begun) (simp append_assoc)))))))
+  loop_refused found ts rest each e (front, (split, (same, (x, (fits, (more, begun)))))) = (
+    front,
+    (
+      split,
+      (
+        (λ zs s m long. refused_turn found ts front rest zs e split (same zs s) s m long),
+        (found ++ x ∷ [], (each-one G found x each fits, (more, rw (joined-one f found x, begun) (simp append_assoc)))),
+      ),
+    ),
+  )
 
   fits_of : (ts : List Tok) (x : A) (rest : List Tok) → Taken q f G ts x rest → G x
   unfolding Taken
@@ -95,20 +118,20 @@ module _ {Tok A : Type 0} (test : Tok → Bool) (q : Parser Tok A) (f : A → Li
 
   module _ (p : Parser Tok A) (room : ℕ) (nonempty : (a : A) → G a → 0 < length (f a)) (turn : (ts : List Tok) → Follows room q f G ts (p ts)) where
     loop_turn : (n : ℕ) → ((found : List A) (ts : List Tok) → Each G found → length ts ≤ n → LoopFollows room found ts (many_from test p n found ts))
-      → (found : List A) (ts : List Tok) → Each G found → length ts ≤ suc n → sees test ts ≡ true → (o : Outcome Tok A) → Follows room q f G ts o
-      → LoopFollows room found ts (and_then o (λ x. many_from test p n (found ++ x ∷ [])))
+        → (found : List A) (ts : List Tok) → Each G found → length ts ≤ suc n → sees test ts ≡ true → (o : Outcome Tok A) → Follows room q f G ts o
+        → LoopFollows room found ts (and_then o (λ x. many_from test p n (found ++ x ∷ [])))
     unfolding LoopFollows
     loop_turn n ih found ts each long e (Ok (x, r1)) taken =
         let some : 0 < length (f x) = nonempty x (fits_of ts x r1 taken) in
         let whole : length ts ≡ length (f x) + length r1 = rw (split_of ts x r1 taken) (length-append (f x) r1) in
         loop_next room found ts r1 x e some taken (many_from test p n (found ++ x ∷ []) r1)
-          (ih (found ++ x ∷ []) r1 (each-one G found x each (fits_of ts x r1 taken)) (omega arith))
+        (ih (found ++ x ∷ []) r1 (each-one G found x each (fits_of ts x r1 taken)) (omega arith))
     loop_turn n ih found ts each long e (Err (Refused rest)) stuck = loop_refused found ts rest each e stuck
     loop_turn n ih found ts each long e (Err Sunk) h = h
 
     loop_or_end : (n : ℕ) → ((found : List A) (ts : List Tok) → Each G found → length ts ≤ n → LoopFollows room found ts (many_from test p n found ts))
-      → (found : List A) (ts : List Tok) → Each G found → length ts ≤ suc n → (b : Bool) → sees test ts ≡ b
-      → LoopFollows room found ts (cond b (and_then (p ts) (λ x. many_from test p n (found ++ x ∷ []))) (Ok (found, ts)))
+        → (found : List A) (ts : List Tok) → Each G found → length ts ≤ suc n → (b : Bool) → sees test ts ≡ b
+        → LoopFollows room found ts (cond b (and_then (p ts) (λ x. many_from test p n (found ++ x ∷ []))) (Ok (found, ts)))
     loop_or_end n ih found ts each long true e = loop_turn n ih found ts each long e (p ts) (turn ts)
     loop_or_end n ih found ts each long false e = loop_ends room found ts each e
 
@@ -127,7 +150,7 @@ module _ {Tok A : Type 0} (test : Tok → Bool) (q : Parser Tok A) (f : A → Li
   many_follows room ts (Err Sunk) h = h
 
   many_begins : (room more : ℕ) (First Next Next' : Heads Tok) (p : Parser Tok A) → Rule room more First Next' p q f G → Within (either First Next) Next'
-    → (ys : List A) → Each G ys → length (joined f ys) < more → (zs : List Tok) → Next (head_of zs) ≡ true → either First Next (head_of (joined f ys ++ zs)) ≡ true
+      → (ys : List A) → Each G ys → length (joined f ys) < more → (zs : List Tok) → Next (head_of zs) ≡ true → either First Next (head_of (joined f ys ++ zs)) ≡ true
   unfolding Within
   many_begins room more First Next Next' p rule within [] each short zs next = either_right _ _ next
   many_begins room more First Next Next' p rule within (y ∷ ys) each short zs next =
@@ -135,9 +158,9 @@ module _ {Tok A : Type 0} (test : Tok → Bool) (q : Parser Tok A) (f : A → Li
       rw append_assoc (either_left _ _ (rule.begins y each.0 (omega arith) (joined f ys ++ zs) (within _ (many_begins room more First Next Next' p rule within ys each.1 (omega arith) zs next))))
 
   many_reads : (room more : ℕ) (First Next Next' : Heads Tok) (p : Parser Tok A) → Rule room more First Next' p q f G → Within First (on_head test) → Without Next test → Within (either First Next) Next'
-    → ((a : A) → G a → 0 < length (f a))
-    → (m : ℕ) (found ys : List A) → Each G ys → length (joined f ys) < more → (zs : List Tok) → Next (head_of zs) ≡ true → length (joined f ys ++ zs) ≤ m
-    → many_from test q m found (joined f ys ++ zs) ≡ Ok (found ++ ys, zs)
+      → ((a : A) → G a → 0 < length (f a))
+      → (m : ℕ) (found ys : List A) → Each G ys → length (joined f ys) < more → (zs : List Tok) → Next (head_of zs) ≡ true → length (joined f ys ++ zs) ≤ m
+      → many_from test q m found (joined f ys ++ zs) ≡ Ok (found ++ ys, zs)
   unfolding Within Without
   many_reads room more First Next Next' p rule seen unseen within nonempty m found [] each short zs next long = rw (append-nil found) (stops m found zs (unseen _ next))
   many_reads room more First Next Next' p rule seen unseen within nonempty zero found (y ∷ ys) each short zs next long =

@@ -38,26 +38,39 @@ module _ {Tok : Type 0} (test : Tok → Bool) where
 
 module _ {Tok A B : Type 0} (p' : Parser Tok A) (k k' : A → Parser Tok B) (f : A → List Tok) (g : B → List Tok) (G : A → Type 0) (H : A → B → Type 0) where
   seq_second : (room space : ℕ) (ts r1 : List Tok) (a : A) → ((a : A) → G a → room ≤ space + length (f a)) → Taken p' f G ts a r1 → (o : Outcome Tok B) → Follows space (k' a) g (H a) r1 o
-    → Follows room (seq p' k') (λ (ab : A × B). f ab.0 ++ g ab.1) (λ (ab : A × B). G ab.0 × H ab.0 ab.1) ts (and_then o (λ b rest. Ok ((a, b), rest)))
+      → Follows room (seq p' k') (λ (ab : A × B). f ab.0 ++ g ab.1) (λ (ab : A × B). G ab.0 × H ab.0 ab.1) ts (and_then o (λ b rest. Ok ((a, b), rest)))
   unfolding Taken Stuck Begins
   seq_second room space ts r1 a gap (e, (fits, same)) (Ok (b, r2)) (e2, (fits2, same2)) =
       (rw (e, e2, append_assoc) refl, ((fits, fits2), λ zs s. rw append_assoc (seq_ok p' k' _ _ _ a b (same (g b ++ zs) (same_after (g b) r2 r1 zs e2 s)) (same2 zs s))))
-  seq_second room space ts r1 a gap (e, (fits, same)) (Err (Refused r2)) (front, (e2, (same2, (b, (fits2, (more, begun)))))) =
-      (f a ++ front, (rw (e, e2, append_assoc) refl,
-        ((λ zs s. rw append_assoc (seq_refused p' k' _ _ _ a (same (front ++ zs) (same_after front r2 r1 zs e2 s)) (same2 zs s))),
-          ((a, b), ((fits, fits2), (more, rw (begun, append_assoc) refl))))))
+  seq_second room space ts r1 a gap (e, (fits, same)) (Err (Refused r2)) (front, (e2, (same2, (b, (fits2, (more, begun)))))) = (
+    f a ++ front,
+    (
+      rw (e, e2, append_assoc) refl,
+      (
+        (λ zs s. rw append_assoc (seq_refused p' k' _ _ _ a (same (front ++ zs) (same_after front r2 r1 zs e2 s)) (same2 zs s))),
+        ((a, b), ((fits, fits2), (more, rw (begun, append_assoc) refl))),
+      ),
+    ),
+  )
   seq_second room space ts r1 a gap (e, (fits, same)) (Err Sunk) h =
       let bound : room ≤ space + length (f a) = gap a fits in
       let long : length ts ≡ length (f a) + length r1 = rw e (length-append (f a) r1) in
       omega arith
 
   seq_first : (room space : ℕ) (ts : List Tok) → ((a : A) → G a → room ≤ space + length (f a)) → ((a : A) (r1 : List Tok) → Follows space (k' a) g (H a) r1 (k a r1)) → ((a : A) → (b : B) × H a b) → (o : Outcome Tok A) → Follows room p' f G ts o
-    → Follows room (seq p' k') (λ (ab : A × B). f ab.0 ++ g ab.1) (λ (ab : A × B). G ab.0 × H ab.0 ab.1) ts (and_then o (λ a rest. and_then (k a rest) (λ b more. Ok ((a, b), more))))
+      → Follows room (seq p' k') (λ (ab : A × B). f ab.0 ++ g ab.1) (λ (ab : A × B). G ab.0 × H ab.0 ab.1) ts (and_then o (λ a rest. and_then (k a rest) (λ b more. Ok ((a, b), more))))
   unfolding Taken Stuck Begins
   seq_first room space ts gap second some (Ok (a, r1)) h = seq_second room space ts r1 a gap h (k a r1) (second a r1)
-  seq_first room space ts gap second some (Err (Refused r1)) (front, (e, (same, (a, (fits, (more, begun)))))) =
-      (front, (e, ((λ zs s. seq_first_refused p' k' _ _ (same zs s)),
-        ((a, (some a).0), ((fits, (some a).1), (more ++ g (some a).0, rw (begun, append_assoc) refl))))))
+  seq_first room space ts gap second some (Err (Refused r1)) (front, (e, (same, (a, (fits, (more, begun)))))) = (
+    front,
+    (
+      e,
+      (
+        (λ zs s. seq_first_refused p' k' _ _ (same zs s)),
+        ((a, (some a).0), ((fits, (some a).1), (more ++ g (some a).0, rw (begun, append_assoc) refl))),
+      ),
+    ),
+  )
   seq_first room space ts gap second some (Err Sunk) h = h
 
 pub seq_rule_by : {Tok A B : Type 0} {room more space less : ℕ} {First Next First' Next' : Heads Tok} {p p' : Parser Tok A} {k k' : A → Parser Tok B} {f : A → List Tok} {g : B → List Tok} {G : A → Type 0} {H : A → B → Type 0}
@@ -75,8 +88,8 @@ seq_rule_by {room = room} {more = more} {space = space} {less = less} {p = p} {p
       let short1 : length (f ab.0) < more = omega arith in
       let short2 : length (g ab.1) < less = omega arith in
       rw append_assoc (seq_ok p' k' _ _ _ ab.0 ab.1
-        (first.reads ab.0 fits.0 short1 (g ab.1 ++ zs) (within _ ((second ab.0).begins ab.1 fits.1 short2 zs next)))
-        ((second ab.0).reads ab.1 fits.1 short2 zs next));
+      (first.reads ab.0 fits.0 short1 (g ab.1 ++ zs) (within _ ((second ab.0).begins ab.1 fits.1 short2 zs next)))
+      ((second ab.0).reads ab.1 fits.1 short2 zs next));
   begins = λ ab fits short zs next.
       let long : length (f ab.0 ++ g ab.1) ≡ length (f ab.0) + length (g ab.1) = length-append (f ab.0) (g ab.1) in
       let bound : more ≤ less + length (f ab.0) = gap' ab.0 fits.0 in
@@ -156,13 +169,13 @@ module _ {Tok A : Type 0} (test : Tok → Bool) (p' q' : Parser Tok A) (f : A �
   on_follows room p q ts left right false see = on_right room ts see (q ts) right
 
   on_reads : (more : ℕ) (First First' Next : Heads Tok) (p q : Parser Tok A) (room : ℕ) → Rule room more First Next p p' f G → Rule room more First' Next q q' f H → Within First (on_head test) → Without First' test
-    → (a : A) → G a ⊎ H a → length (f a) < more → (zs : List Tok) → Next (head_of zs) ≡ true → on test p' q' (f a ++ zs) ≡ Ok (a, zs)
+      → (a : A) → G a ⊎ H a → length (f a) < more → (zs : List Tok) → Next (head_of zs) ≡ true → on test p' q' (f a ++ zs) ≡ Ok (a, zs)
   unfolding Within Without
   on_reads more First First' Next p q room left right seen unseen a (inl fits) short zs next = on_yes _ (seen _ (left.begins a fits short zs next)) ∙ left.reads a fits short zs next
   on_reads more First First' Next p q room left right seen unseen a (inr fits) short zs next = on_no _ (unseen _ (right.begins a fits short zs next)) ∙ right.reads a fits short zs next
 
   on_begins : (more : ℕ) (First First' Next : Heads Tok) (p q : Parser Tok A) (room : ℕ) → Rule room more First Next p p' f G → Rule room more First' Next q q' f H
-    → (a : A) → G a ⊎ H a → length (f a) < more → (zs : List Tok) → Next (head_of zs) ≡ true → (First (head_of (f a ++ zs)) || First' (head_of (f a ++ zs))) ≡ true
+      → (a : A) → G a ⊎ H a → length (f a) < more → (zs : List Tok) → Next (head_of zs) ≡ true → (First (head_of (f a ++ zs)) || First' (head_of (f a ++ zs))) ≡ true
   on_begins more First First' Next p q room left right a (inl fits) short zs next = either_left _ _ (left.begins a fits short zs next)
   on_begins more First First' Next p q room left right a (inr fits) short zs next = either_right _ _ (right.begins a fits short zs next)
 
@@ -269,4 +282,4 @@ pub optional_rule : {Tok A : Type 0} {room more : ℕ} {First Next : Heads Tok} 
     → Rule room more (either First Next) Next (optional test p) (optional test q) (if_any f) (IfAny G)
 optional_rule {room = room} {more = more} {Next = Next} {f = f} {G = G} test rule seen unseen =
     fit_rule (IfAny G) (any_of G) (from_any G)
-      (on_rule test (form_rule Some (if_any f) (IsThere G) (is_there f G) (there G) rule) (pure_rule room more Next None (if_any f) refl) seen unseen)
+    (on_rule test (form_rule Some (if_any f) (IsThere G) (is_there f G) (there G) rule) (pure_rule room more Next None (if_any f) refl) seen unseen)

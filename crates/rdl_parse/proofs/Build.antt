@@ -65,10 +65,12 @@ pub any_rule : {A : Type 0} {room more : ℕ} {S N : List ℕ} {p q : Parser Rdl
     → Sorted test T → among S 0 ≡ false → subset S T ≡ true → disjoint N T ≡ true → Reading room more S N p q f (Holds fits)
     → Reading room more (S ++ N) N (optional test p) (optional test q) (flat_option f) (Holds (fits_option fits))
 unfolding Within
-any_rule {S = S} {N = N} {f = f} {fits = fits} test T sorted no_end sub away reading = record { rule =
-    weaker_rule (either_within S N) (λ h e. e)
+any_rule {S = S} {N = N} {f = f} {fits = fits} test T sorted no_end sub away reading = record {
+  rule =
+      weaker_rule (either_within S N) (λ h e. e)
       (fit_rule (Holds (fits_option fits)) (absent_fits fits) (fits_absent fits)
-        (flat_rule (flat_option f) (absent_flat f) (optional_rule test reading.rule (within_test test T S sorted no_end sub) (without_test test T N sorted away)))) }
+      (flat_rule (flat_option f) (absent_flat f) (optional_rule test reading.rule (within_test test T S sorted no_end sub) (without_test test T N sorted away))));
+}
 
 -- ---- repeated parts
 
@@ -88,12 +90,14 @@ pub each_rule : {A : Type 0} {room more : ℕ} {S N' : List ℕ} {p q : Parser R
     → Sorted test T → among S 0 ≡ false → subset S T ≡ true → disjoint N T ≡ true → subset (S ++ N) N' ≡ true → ((a : A) → fits a ≡ true → 0 < length (f a)) → Reading room more S N' p q f (Holds fits)
     → Reading room more (S ++ N) N (many test p) (many test q) (flat_list f) (Holds (list_all fits))
 unfolding Within
-each_rule {S = S} {N' = N'} {f = f} {fits = fits} test T N sorted no_end sub away after some reading = record { rule =
-    weaker_rule (either_within S N) (λ h e. e)
+each_rule {S = S} {N' = N'} {f = f} {fits = fits} test T N sorted no_end sub away after some reading = record {
+  rule =
+      weaker_rule (either_within S N) (λ h e. e)
       (fit_rule (Holds (list_all fits)) (list_fits fits) (fits_list fits)
-        (flat_rule (flat_list f) (list_flat f)
-          (many_rule test (heads N) some reading.rule (within_test test T S sorted no_end sub) (without_test test T N sorted away)
-            (λ h e. heads_within (S ++ N) N' after h (either_within S N h e))))) }
+      (flat_rule (flat_list f) (list_flat f)
+      (many_rule test (heads N) some reading.rule (within_test test T S sorted no_end sub) (without_test test T N sorted away)
+      (λ h e. heads_within (S ++ N) N' after h (either_within S N h e)))));
+}
 
 -- ---- one or the other
 
@@ -101,8 +105,10 @@ pub or_rule : {A : Type 0} {room more : ℕ} {S S' N : List ℕ} {p p' q q' : Pa
     → Sorted test T → among S 0 ≡ false → subset S T ≡ true → disjoint S' T ≡ true → Reading room more S N p p' f G → Reading room more S' N q q' f H
     → Reading room more (S ++ S') N (on test p q) (on test p' q') f (λ a. G a ⊎ H a)
 unfolding Within
-or_rule {S = S} {S' = S'} test T sorted no_end sub away left right = record { rule =
-    weaker_rule (either_within S S') (λ h e. e) (on_rule test left.rule right.rule (within_test test T S sorted no_end sub) (without_test test T S' sorted away)) }
+or_rule {S = S} {S' = S'} test T sorted no_end sub away left right = record {
+  rule =
+      weaker_rule (either_within S S') (λ h e. e) (on_rule test left.rule right.rule (within_test test T S sorted no_end sub) (without_test test T S' sorted away));
+}
 
 -- ---- in another form, and for other words for fitting
 

@@ -74,8 +74,8 @@ path_tail_rule : (room more : ℕ) → Reading room more (12 ∷ 22 ∷ 19 ∷ [
 unfolding path_tail
 path_tail_rule room more =
     image_rule make_path flat_tail (λ p h. refl)
-      (then_rule refl (any_index_rule room more (22 ∷ 19 ∷ []) refl) (λ _. then_rule refl (tail_steps_rule room more)
-        (λ _. then_rule refl (arrow_rule room more (4 ∷ [])) (λ _. then_rule refl (prop_rule room more) (λ _. semi_rule room more nexts)))))
+    (then_rule refl (any_index_rule room more (22 ∷ 19 ∷ []) refl) (λ _. then_rule refl (tail_steps_rule room more)
+    (λ _. then_rule refl (arrow_rule room more (4 ∷ [])) (λ _. then_rule refl (prop_rule room more) (λ _. semi_rule room more nexts)))))
 
 prop_tail_rule : (room more : ℕ) → Reading room more (16 ∷ 14 ∷ []) nexts prop_tail prop_tail flat_tail FitsProp
 unfolding prop_tail
@@ -99,8 +99,8 @@ after_name_rule : (room more : ℕ) → Reading room more (4 ∷ 12 ∷ 22 ∷ 1
 unfolding after_name
 after_name_rule room more =
     fitting_rule FitsTail tail_fits fits_tails
-      (or_rule is_name (4 ∷ []) name_sorted refl refl refl (use_tail_rule room more)
-        (or_rule is_path_tail (12 ∷ 22 ∷ 19 ∷ []) is_path_tail_sorted refl refl refl (path_tail_rule room more) (prop_tail_rule room more)))
+    (or_rule is_name (4 ∷ []) name_sorted refl refl refl (use_tail_rule room more)
+    (or_rule is_path_tail (12 ∷ 22 ∷ 19 ∷ []) is_path_tail_sorted refl refl refl (path_tail_rule room more) (prop_tail_rule room more)))
 
 abbrev make_named : RdlToken × Tail → RdlItem
 make_named p = named_item p.0 p.1
@@ -193,8 +193,8 @@ definition_rule : (room more : ℕ) (inner inner' : Parser RdlToken (List RdlIte
 unfolding definition
 definition_rule room more inner inner' rule =
     as_rule make_def flat_def (Holds fits_def) (λ p h. (def_flat p, def_fits p h)) def_parts
-      (then_step_rule refl (λ a h. omega arith) (kind_rule (suc room) (suc more)) (λ _. then_rule refl (any_name_rule room more)
-        (λ n. then_rule refl (open_brace_rule room more nexts) (λ _. then_rule refl rule (λ _. then_rule refl (close_brace_rule room more (4 ∷ 14 ∷ [])) (λ _. ending_rule room more n))))))
+    (then_step_rule refl (λ a h. omega arith) (kind_rule (suc room) (suc more)) (λ _. then_rule refl (any_name_rule room more)
+    (λ n. then_rule refl (open_brace_rule room more nexts) (λ _. then_rule refl rule (λ _. then_rule refl (close_brace_rule room more (4 ∷ 14 ∷ [])) (λ _. ending_rule room more n))))))
 
 -- ---- items
 
@@ -218,7 +218,7 @@ begins_item_sorted : Sorted begins_item firsts
 unfolding begins_item
 begins_item_sorted =
     sorted_or _ _ (30 ∷ 31 ∷ 32 ∷ 33 ∷ 35 ∷ 34 ∷ []) (4 ∷ [])
-      (sorted_or _ _ (30 ∷ 31 ∷ 32 ∷ 33 ∷ 35 ∷ []) (34 ∷ []) (sorted_or _ _ (30 ∷ 31 ∷ 32 ∷ 33 ∷ []) (35 ∷ []) is_kind_word_sorted default_sorted) enum_sorted) name_sorted
+    (sorted_or _ _ (30 ∷ 31 ∷ 32 ∷ 33 ∷ 35 ∷ []) (34 ∷ []) (sorted_or _ _ (30 ∷ 31 ∷ 32 ∷ 33 ∷ []) (35 ∷ []) is_kind_word_sorted default_sorted) enum_sorted) name_sorted
 
 abbrev FitsAny : RdlItem → Type 0
 FitsAny t = Image item.Def (Holds fits_def) t ⊎ (FitsDefault t ⊎ (Image item.Enum (Holds fits_enum) t ⊎ FitsNamed t))
@@ -235,33 +235,33 @@ item_fits t (inr (inr (inr (p, (e, h))))) = subst Fitting e (named_fits p.0 p.1 
 fits_items : (t : RdlItem) → fits_item t ≡ true → FitsAny t
 fits_items =
     by_variant (λ t. fits_item t ≡ true → FitsAny t)
-      (λ d h. inl (d, (refl, sym (fits-Def d) ∙ h)))
-      (λ u h. let e = sym (fits-Use u) ∙ h in inr (inr (inr ((u.name, Use u.insts u.semi), (refl, (and_left _ _ (and_left _ _ e), (and_right _ _ (and_left _ _ e), and_right _ _ e)))))))
-      (λ w p s h. let e = sym (fits-Default w p s) ∙ h in inr (inl ((w, (p, s)), (refl, (and_left _ _ (and_left _ _ e), (and_right _ _ (and_left _ _ e), and_right _ _ e))))))
-      (λ p s h. let e = sym (fits-Prop p s) ∙ h in let e1 = and_left _ _ e in inr (inr (inr ((p.name, Prop p.value s), (refl, (and_left _ _ e1, (and_right _ _ e1, and_right _ _ e)))))))
-      (λ q a p s h. let e = sym (fits-Dynamic q a p s) ∙ h in let e1 = and_left _ _ e in let e2 = and_left _ _ e1 in let e3 = and_left _ _ e2 in let e4 = and_left _ _ e3 in
-        inr (inr (inr ((q.first.name, Path q.first.index q.more a p s), (refl, (and_left _ _ e4, (and_right _ _ e4, (and_right _ _ e3, (and_right _ _ e2, (and_right _ _ e1, and_right _ _ e))))))))))
-      (λ x h. inr (inr (inl (x, (refl, sym (fits-Enum x) ∙ h)))))
+    (λ d h. inl (d, (refl, sym (fits-Def d) ∙ h)))
+    (λ u h. let e = sym (fits-Use u) ∙ h in inr (inr (inr ((u.name, Use u.insts u.semi), (refl, (and_left _ _ (and_left _ _ e), (and_right _ _ (and_left _ _ e), and_right _ _ e)))))))
+    (λ w p s h. let e = sym (fits-Default w p s) ∙ h in inr (inl ((w, (p, s)), (refl, (and_left _ _ (and_left _ _ e), (and_right _ _ (and_left _ _ e), and_right _ _ e))))))
+    (λ p s h. let e = sym (fits-Prop p s) ∙ h in let e1 = and_left _ _ e in inr (inr (inr ((p.name, Prop p.value s), (refl, (and_left _ _ e1, (and_right _ _ e1, and_right _ _ e)))))))
+    (λ q a p s h. let e = sym (fits-Dynamic q a p s) ∙ h in let e1 = and_left _ _ e in let e2 = and_left _ _ e1 in let e3 = and_left _ _ e2 in let e4 = and_left _ _ e3 in
+    inr (inr (inr ((q.first.name, Path q.first.index q.more a p s), (refl, (and_left _ _ e4, (and_right _ _ e4, (and_right _ _ e3, (and_right _ _ e2, (and_right _ _ e1, and_right _ _ e))))))))))
+    (λ x h. inr (inr (inl (x, (refl, sym (fits-Enum x) ∙ h)))))
 
 item_rule : (room more : ℕ) (inner inner' : Parser RdlToken (List RdlItem)) → Reading room more nexts (11 ∷ []) inner inner' (flat_list flat_item) (Holds (list_all fits_item))
     → Reading (suc room) (suc more) firsts nexts (item_of inner) (item_of inner') flat_item (Holds fits_item)
 unfolding item_of
 item_rule room more inner inner' rule =
     fitting_rule (Holds fits_item) item_fits fits_items
-      (or_rule is_kind_word (30 ∷ 31 ∷ 32 ∷ 33 ∷ []) is_kind_word_sorted refl refl refl (image_rule item.Def flat_item (λ d h. flat-Def d) (definition_rule room more inner inner' rule))
-        (or_rule (is_text (codes "default")) (35 ∷ []) default_sorted refl refl refl (default_prop_rule (suc room) (suc more))
-          (or_rule (is_text (codes "enum")) (34 ∷ []) enum_sorted refl refl refl (image_rule item.Enum flat_item (λ x h. flat-Enum x) (enumeration_rule (suc room) (suc more) nexts)) (named_rule (suc room) (suc more)))))
+    (or_rule is_kind_word (30 ∷ 31 ∷ 32 ∷ 33 ∷ []) is_kind_word_sorted refl refl refl (image_rule item.Def flat_item (λ d h. flat-Def d) (definition_rule room more inner inner' rule))
+    (or_rule (is_text (codes "default")) (35 ∷ []) default_sorted refl refl refl (default_prop_rule (suc room) (suc more))
+    (or_rule (is_text (codes "enum")) (34 ∷ []) enum_sorted refl refl refl (image_rule item.Enum flat_item (λ x h. flat-Enum x) (enumeration_rule (suc room) (suc more) nexts)) (named_rule (suc room) (suc more)))))
 
 -- every item has a token
 nonempty : (t : RdlItem) → fits_item t ≡ true → 0 < length (flat_item t)
 nonempty =
     by_variant (λ t. fits_item t ≡ true → 0 < length (flat_item t))
-      (λ d h. rw (flat-Def d) (def_nonempty d))
-      (λ u h. rw (flat-Use u) (omega arith))
-      (λ w p s h. rw (flat-Default w p s) (omega arith))
-      (λ p s h. rw (flat-Prop p s) (omega arith))
-      (λ q a p s h. rw (flat-Dynamic q a p s) (omega arith))
-      (λ x h. rw (flat-Enum x) (omega arith))
+    (λ d h. rw (flat-Def d) (def_nonempty d))
+    (λ u h. rw (flat-Use u) (omega arith))
+    (λ w p s h. rw (flat-Default w p s) (omega arith))
+    (λ p s h. rw (flat-Prop p s) (omega arith))
+    (λ q a p s h. rw (flat-Dynamic q a p s) (omega arith))
+    (λ x h. rw (flat-Enum x) (omega arith))
   where
     def_nonempty : (d : RdlDef) → 0 < length (flat_def d)
     def_nonempty d = subst (λ x. 0 < length (flat_def x)) (roll-out-RdlDef d) (rw (flat-roll (out-RdlDef d)) (omega arith))

@@ -39,7 +39,7 @@ pub marked_rule : (room more : ℕ) (bytes : List ℕ) (k : ℕ) (N : List ℕ) 
 unfolding marked
 marked_rule room more bytes k N first =
     as_rule make_marked flat_marked (Holds (fits_marked bytes)) (λ p h. (refl, and_both _ _ h.0 h.1)) (λ x h. ((x.mark, x.number), (refl, (and_left _ _ h, and_right _ _ h))))
-      (then_rule refl (first (1 ∷ [])) (λ _. number_rule room more N))
+    (then_rule refl (first (1 ∷ [])) (λ _. number_rule room more N))
 
 any_colon_rule : (room more : ℕ) → Reading room more (17 ∷ 13 ∷ []) (13 ∷ []) (any_marked (codes ":")) (any_marked (codes ":")) (flat_option flat_marked) (Holds (fits_option (fits_marked (codes ":"))))
 unfolding any_marked
@@ -72,7 +72,7 @@ pub index_rule : (room more : ℕ) (N : List ℕ) → Reading room more (12 ∷ 
 unfolding index
 index_rule room more N =
     as_rule make_index (flat_index) (Holds (fits_index)) (λ p h. (refl, and_both _ _ (and_both _ _ h.0 h.1.0) h.1.1)) (λ x h. ((x.open, (x.number, x.close)), (refl, ((and_left _ _ (and_left _ _ h)), ((and_right _ _ (and_left _ _ h)), (and_right _ _ h))))))
-      (then_rule refl (open_bracket_rule room more (1 ∷ [])) (λ _. then_rule refl (number_rule room more (13 ∷ [])) (λ _. close_bracket_rule room more N)))
+    (then_rule refl (open_bracket_rule room more (1 ∷ [])) (λ _. then_rule refl (number_rule room more (13 ∷ [])) (λ _. close_bracket_rule room more N)))
 
 pub any_index_rule : (room more : ℕ) (N : List ℕ) → disjoint N (12 ∷ []) ≡ true → Reading room more (12 ∷ N) N any_index any_index (flat_option flat_index) (Holds (fits_option fits_index))
 unfolding any_index
@@ -85,7 +85,7 @@ pub step_rule : (room more : ℕ) (N : List ℕ) → disjoint N (12 ∷ []) ≡ 
 unfolding step
 step_rule room more N away self =
     as_rule make_step (flat_step) (Holds (fits_step)) (λ p h. (refl, and_both _ _ h.0 h.1)) (λ x h. ((x.name, x.index), (refl, ((and_left _ _ h), (and_right _ _ h)))))
-      (then_rule self (name_rule room more (12 ∷ N)) (λ _. any_index_rule room more N away))
+    (then_rule self (name_rule room more (12 ∷ N)) (λ _. any_index_rule room more N away))
 
 abbrev make_next_step : RdlToken × RdlStep → RdlNextStep
 make_next_step p = record { dot = p.0; step = p.1 }
@@ -94,7 +94,7 @@ pub next_step_rule : (room more : ℕ) (N : List ℕ) → disjoint N (12 ∷ [])
 unfolding next_step
 next_step_rule room more N away self =
     as_rule make_next_step (flat_next_step) (Holds (fits_next_step)) (λ p h. (refl, and_both _ _ h.0 h.1)) (λ x h. ((x.dot, x.step), (refl, ((and_left _ _ h), (and_right _ _ h)))))
-      (then_rule refl (dot_rule room more (4 ∷ [])) (λ _. step_rule room more N away self))
+    (then_rule refl (dot_rule room more (4 ∷ [])) (λ _. step_rule room more N away self))
 
 pub next_steps_rule : (room more : ℕ) → Reading room more (22 ∷ 19 ∷ 14 ∷ []) (19 ∷ 14 ∷ []) next_steps next_steps (flat_list flat_next_step) (Holds (list_all fits_next_step))
 unfolding next_steps
@@ -111,7 +111,7 @@ pub path_rule : (room more : ℕ) → Reading room more (4 ∷ []) (19 ∷ 14 �
 unfolding path
 path_rule room more =
     as_rule make_path (flat_path) (Holds (fits_path)) (λ p h. (refl, and_both _ _ h.0 h.1)) (λ x h. ((x.first, x.more), (refl, ((and_left _ _ h), (and_right _ _ h)))))
-      (then_rule refl (step_rule room more (22 ∷ 19 ∷ 14 ∷ []) refl refl) (λ _. next_steps_rule room more))
+    (then_rule refl (step_rule room more (22 ∷ 19 ∷ 14 ∷ []) refl refl) (λ _. next_steps_rule room more))
 
 abbrev make_signal : RdlToken × RdlToken → RdlSignal
 make_signal p = record { arrow = p.0; name = p.1 }
@@ -120,7 +120,7 @@ pub signal_rule : (room more : ℕ) → Reading room more (19 ∷ []) (14 ∷ []
 unfolding signal
 signal_rule room more =
     as_rule make_signal (flat_signal) (Holds (fits_signal)) (λ p h. (refl, and_both _ _ h.0 h.1)) (λ x h. ((x.arrow, x.name), (refl, ((and_left _ _ h), (and_right _ _ h)))))
-      (then_rule refl (arrow_rule room more (4 ∷ [])) (λ _. name_rule room more (14 ∷ [])))
+    (then_rule refl (arrow_rule room more (4 ∷ [])) (λ _. name_rule room more (14 ∷ [])))
 
 any_signal_rule : (room more : ℕ) → Reading room more (19 ∷ 14 ∷ []) (14 ∷ []) any_signal any_signal (flat_option flat_signal) (Holds (fits_option fits_signal))
 unfolding any_signal
@@ -153,10 +153,10 @@ pub value_rule : (room more : ℕ) → Reading room more (1 ∷ 2 ∷ 36 ∷ 37 
 unfolding value_of
 value_rule room more =
     fitting_rule (Holds fits_value) value_fits fits_values
-      (or_rule (is_kind Num) (1 ∷ []) number_sorted refl refl refl (image_rule value.Num flat_value (λ t h. refl) (number_rule room more (14 ∷ [])))
-        (or_rule (is_kind Str) (2 ∷ []) string_sorted refl refl refl (image_rule value.Str flat_value (λ t h. refl) (string_rule room more (14 ∷ [])))
-          (or_rule (is_text (codes "true")) (36 ∷ []) true_sorted refl refl refl (image_rule value.True flat_value (λ t h. refl) (true_rule room more (14 ∷ [])))
-            (or_rule (is_text (codes "false")) (37 ∷ []) false_sorted refl refl refl (image_rule value.False flat_value (λ t h. refl) (false_rule room more (14 ∷ []))) (reference_rule room more)))))
+    (or_rule (is_kind Num) (1 ∷ []) number_sorted refl refl refl (image_rule value.Num flat_value (λ t h. refl) (number_rule room more (14 ∷ [])))
+    (or_rule (is_kind Str) (2 ∷ []) string_sorted refl refl refl (image_rule value.Str flat_value (λ t h. refl) (string_rule room more (14 ∷ [])))
+    (or_rule (is_text (codes "true")) (36 ∷ []) true_sorted refl refl refl (image_rule value.True flat_value (λ t h. refl) (true_rule room more (14 ∷ [])))
+    (or_rule (is_text (codes "false")) (37 ∷ []) false_sorted refl refl refl (image_rule value.False flat_value (λ t h. refl) (false_rule room more (14 ∷ []))) (reference_rule room more)))))
 
 abbrev make_assigned : RdlToken × RdlValue → RdlAssigned
 make_assigned p = record { equals = p.0; value = p.1 }
@@ -165,7 +165,7 @@ pub assigned_rule : (room more : ℕ) → Reading room more (16 ∷ []) (14 ∷ 
 unfolding assigned
 assigned_rule room more =
     as_rule make_assigned (flat_assigned) (Holds (fits_assigned)) (λ p h. (refl, and_both _ _ h.0 h.1)) (λ x h. ((x.equals, x.value), (refl, ((and_left _ _ h), (and_right _ _ h)))))
-      (then_rule refl (equals_rule room more (1 ∷ 2 ∷ 36 ∷ 37 ∷ 4 ∷ [])) (λ _. value_rule room more))
+    (then_rule refl (equals_rule room more (1 ∷ 2 ∷ 36 ∷ 37 ∷ 4 ∷ [])) (λ _. value_rule room more))
 
 pub any_assigned_rule : (room more : ℕ) → Reading room more (16 ∷ 14 ∷ []) (14 ∷ []) any_assigned any_assigned (flat_option flat_assigned) (Holds (fits_option fits_assigned))
 unfolding any_assigned
@@ -178,7 +178,7 @@ pub prop_rule : (room more : ℕ) → Reading room more (4 ∷ []) (14 ∷ []) (
 unfolding prop
 prop_rule room more =
     as_rule make_prop (flat_prop) (Holds (fits_prop)) (λ p h. (refl, and_both _ _ h.0 h.1)) (λ x h. ((x.name, x.value), (refl, ((and_left _ _ h), (and_right _ _ h)))))
-      (then_rule refl (name_rule room more (16 ∷ 14 ∷ [])) (λ _. any_assigned_rule room more))
+    (then_rule refl (name_rule room more (16 ∷ 14 ∷ [])) (λ _. any_assigned_rule room more))
 
 abbrev make_range : RdlToken × (RdlToken × (Option RdlMarked × RdlToken)) → RdlRange
 make_range p = record { «open» = p.0; first = p.1.0; second = p.1.1.0; close = p.1.1.1 }
@@ -187,7 +187,7 @@ pub range_rule : (room more : ℕ) (N : List ℕ) → Reading room more (12 ∷ 
 unfolding range
 range_rule room more N =
     as_rule make_range (flat_range) (Holds (fits_range)) (λ p h. (refl, and_both _ _ (and_both _ _ (and_both _ _ h.0 h.1.0) h.1.1.0) h.1.1.1)) (λ x h. ((x.open, (x.first, (x.second, x.close))), (refl, ((and_left _ _ (and_left _ _ (and_left _ _ h))), ((and_right _ _ (and_left _ _ (and_left _ _ h))), ((and_right _ _ (and_left _ _ h)), (and_right _ _ h)))))))
-      (then_rule refl (open_bracket_rule room more (1 ∷ [])) (λ _. then_rule refl (number_rule room more (17 ∷ 13 ∷ [])) (λ _. then_rule refl (any_colon_rule room more) (λ _. close_bracket_rule room more N))))
+    (then_rule refl (open_bracket_rule room more (1 ∷ [])) (λ _. then_rule refl (number_rule room more (17 ∷ 13 ∷ [])) (λ _. then_rule refl (any_colon_rule room more) (λ _. close_bracket_rule room more N))))
 
 any_range_rule : (room more : ℕ) → Reading room more (12 ∷ 16 ∷ 18 ∷ 20 ∷ 21 ∷ 15 ∷ 14 ∷ []) (16 ∷ 18 ∷ 20 ∷ 21 ∷ 15 ∷ 14 ∷ []) any_range any_range (flat_option flat_range) (Holds (fits_option fits_range))
 unfolding any_range
@@ -200,7 +200,7 @@ pub inst_rule : (room more : ℕ) → Reading room more (4 ∷ []) (15 ∷ 14 �
 unfolding inst
 inst_rule room more =
     as_rule make_inst (flat_inst) (Holds (fits_inst)) (λ p h. (simp append_assoc, and_both _ _ (and_both _ _ (and_both _ _ (and_both _ _ (and_both _ _ h.0 h.1.0) h.1.1.0) h.1.1.1.0) h.1.1.1.1.0) h.1.1.1.1.1)) (λ x h. ((x.name, (x.range, (x.reset, (x.address, (x.stride, x.alignment))))), (refl, ((and_left _ _ (and_left _ _ (and_left _ _ (and_left _ _ (and_left _ _ h))))), ((and_right _ _ (and_left _ _ (and_left _ _ (and_left _ _ (and_left _ _ h))))), ((and_right _ _ (and_left _ _ (and_left _ _ (and_left _ _ h)))), ((and_right _ _ (and_left _ _ (and_left _ _ h))), ((and_right _ _ (and_left _ _ h)), (and_right _ _ h)))))))))
-      (then_rule refl (name_rule room more (12 ∷ 16 ∷ 18 ∷ 20 ∷ 21 ∷ 15 ∷ 14 ∷ [])) (λ _. then_rule refl (any_range_rule room more) (λ _. then_rule refl (any_equals_rule room more) (λ _. then_rule refl (any_at_rule room more) (λ _. then_rule refl (any_plus_equals_rule room more) (λ _. any_percent_equals_rule room more))))))
+    (then_rule refl (name_rule room more (12 ∷ 16 ∷ 18 ∷ 20 ∷ 21 ∷ 15 ∷ 14 ∷ [])) (λ _. then_rule refl (any_range_rule room more) (λ _. then_rule refl (any_equals_rule room more) (λ _. then_rule refl (any_at_rule room more) (λ _. then_rule refl (any_plus_equals_rule room more) (λ _. any_percent_equals_rule room more))))))
 
 abbrev make_next_inst : RdlToken × RdlInst → RdlNextInst
 make_next_inst p = record { comma = p.0; inst = p.1 }
@@ -209,7 +209,7 @@ pub next_inst_rule : (room more : ℕ) → Reading room more (15 ∷ []) (15 ∷
 unfolding next_inst
 next_inst_rule room more =
     as_rule make_next_inst (flat_next_inst) (Holds (fits_next_inst)) (λ p h. (refl, and_both _ _ h.0 h.1)) (λ x h. ((x.comma, x.inst), (refl, ((and_left _ _ h), (and_right _ _ h)))))
-      (then_rule refl (comma_rule room more (4 ∷ [])) (λ _. inst_rule room more))
+    (then_rule refl (comma_rule room more (4 ∷ [])) (λ _. inst_rule room more))
 
 next_insts_rule : (room more : ℕ) → Reading room more (15 ∷ 14 ∷ []) (14 ∷ []) next_insts next_insts (flat_list flat_next_inst) (Holds (list_all fits_next_inst))
 unfolding next_insts
@@ -222,7 +222,7 @@ pub insts_rule : (room more : ℕ) → Reading room more (4 ∷ []) (14 ∷ []) 
 unfolding insts
 insts_rule room more =
     as_rule make_insts (flat_insts) (Holds (fits_insts)) (λ p h. (refl, and_both _ _ h.0 h.1)) (λ x h. ((x.first, x.more), (refl, ((and_left _ _ h), (and_right _ _ h)))))
-      (then_rule refl (inst_rule room more) (λ _. next_insts_rule room more))
+    (then_rule refl (inst_rule room more) (λ _. next_insts_rule room more))
 
 abbrev make_entry_prop : RdlProp × RdlToken → RdlEntryProp
 make_entry_prop p = record { prop = p.0; semi = p.1 }
@@ -231,7 +231,7 @@ pub entry_prop_rule : (room more : ℕ) → Reading room more (4 ∷ []) (4 ∷ 
 unfolding entry_prop
 entry_prop_rule room more =
     as_rule make_entry_prop (flat_entry_prop) (Holds (fits_entry_prop)) (λ p h. (refl, and_both _ _ h.0 h.1)) (λ x h. ((x.prop, x.semi), (refl, ((and_left _ _ h), (and_right _ _ h)))))
-      (then_rule refl (prop_rule room more) (λ _. semi_rule room more (4 ∷ 11 ∷ [])))
+    (then_rule refl (prop_rule room more) (λ _. semi_rule room more (4 ∷ 11 ∷ [])))
 
 entry_props_rule : (room more : ℕ) → Reading room more (4 ∷ 11 ∷ []) (11 ∷ []) entry_props entry_props (flat_list flat_entry_prop) (Holds (list_all fits_entry_prop))
 unfolding entry_props
@@ -244,7 +244,7 @@ pub entry_body_rule : (room more : ℕ) → Reading room more (10 ∷ []) (14 �
 unfolding entry_body
 entry_body_rule room more =
     as_rule make_entry_body (flat_entry_body) (Holds (fits_entry_body)) (λ p h. (refl, and_both _ _ (and_both _ _ h.0 h.1.0) h.1.1)) (λ x h. ((x.open, (x.props, x.close)), (refl, ((and_left _ _ (and_left _ _ h)), ((and_right _ _ (and_left _ _ h)), (and_right _ _ h))))))
-      (then_rule refl (open_brace_rule room more (4 ∷ 11 ∷ [])) (λ _. then_rule refl (entry_props_rule room more) (λ _. close_brace_rule room more (14 ∷ []))))
+    (then_rule refl (open_brace_rule room more (4 ∷ 11 ∷ [])) (λ _. then_rule refl (entry_props_rule room more) (λ _. close_brace_rule room more (14 ∷ []))))
 
 any_body_rule : (room more : ℕ) → Reading room more (10 ∷ 14 ∷ []) (14 ∷ []) any_body any_body (flat_option flat_entry_body) (Holds (fits_option fits_entry_body))
 unfolding any_body
@@ -257,7 +257,7 @@ pub entry_rule : (room more : ℕ) → Reading room more (4 ∷ []) (4 ∷ 11 �
 unfolding entry
 entry_rule room more =
     as_rule make_entry (flat_entry) (Holds (fits_entry)) (λ p h. (simp append_assoc, and_both _ _ (and_both _ _ (and_both _ _ h.0 h.1.0) h.1.1.0) h.1.1.1)) (λ x h. ((x.name, (x.value, (x.body, x.semi))), (refl, ((and_left _ _ (and_left _ _ (and_left _ _ h))), ((and_right _ _ (and_left _ _ (and_left _ _ h))), ((and_right _ _ (and_left _ _ h)), (and_right _ _ h)))))))
-      (then_rule refl (name_rule room more (16 ∷ 10 ∷ 14 ∷ [])) (λ _. then_rule refl (any_value_rule room more) (λ _. then_rule refl (any_body_rule room more) (λ _. semi_rule room more (4 ∷ 11 ∷ [])))))
+    (then_rule refl (name_rule room more (16 ∷ 10 ∷ 14 ∷ [])) (λ _. then_rule refl (any_value_rule room more) (λ _. then_rule refl (any_body_rule room more) (λ _. semi_rule room more (4 ∷ 11 ∷ [])))))
 
 entries_rule : (room more : ℕ) → Reading room more (4 ∷ 11 ∷ []) (11 ∷ []) entries entries (flat_list flat_entry) (Holds (list_all fits_entry))
 unfolding entries
@@ -270,7 +270,7 @@ pub enumeration_rule : (room more : ℕ) (N : List ℕ) → Reading room more (3
 unfolding enumeration
 enumeration_rule room more N =
     as_rule make_enumeration (flat_enum) (Holds (fits_enum)) (λ p h. (refl, and_both _ _ (and_both _ _ (and_both _ _ (and_both _ _ (and_both _ _ h.0 h.1.0) h.1.1.0) h.1.1.1.0) h.1.1.1.1.0) h.1.1.1.1.1)) (λ x h. ((x.word, (x.name, (x.open, (x.entries, (x.close, x.semi))))), (refl, ((and_left _ _ (and_left _ _ (and_left _ _ (and_left _ _ (and_left _ _ h))))), ((and_right _ _ (and_left _ _ (and_left _ _ (and_left _ _ (and_left _ _ h))))), ((and_right _ _ (and_left _ _ (and_left _ _ (and_left _ _ h)))), ((and_right _ _ (and_left _ _ (and_left _ _ h))), ((and_right _ _ (and_left _ _ h)), (and_right _ _ h)))))))))
-      (then_rule refl (enum_rule room more (4 ∷ [])) (λ _. then_rule refl (name_rule room more (10 ∷ [])) (λ _. then_rule refl (open_brace_rule room more (4 ∷ 11 ∷ [])) (λ _. then_rule refl (entries_rule room more) (λ _. then_rule refl (close_brace_rule room more (14 ∷ [])) (λ _. semi_rule room more N))))))
+    (then_rule refl (enum_rule room more (4 ∷ [])) (λ _. then_rule refl (name_rule room more (10 ∷ [])) (λ _. then_rule refl (open_brace_rule room more (4 ∷ 11 ∷ [])) (λ _. then_rule refl (entries_rule room more) (λ _. then_rule refl (close_brace_rule room more (14 ∷ [])) (λ _. semi_rule room more N))))))
 
 -- ---- the kind of a definition
 
@@ -293,6 +293,6 @@ pub kind_rule : (room more : ℕ) → Reading room more (30 ∷ 31 ∷ 32 ∷ 33
 unfolding kind
 kind_rule room more =
     fitting_rule (Holds fits_kind) kind_fits fits_kinds
-      (or_rule (is_text (codes "addrmap")) (30 ∷ []) addrmap_sorted refl refl refl (image_rule Addrmap one_kind (λ t h. refl) (addrmap_rule room more (4 ∷ 10 ∷ [])))
-        (or_rule (is_text (codes "regfile")) (31 ∷ []) regfile_sorted refl refl refl (image_rule Regfile one_kind (λ t h. refl) (regfile_rule room more (4 ∷ 10 ∷ [])))
-          (or_rule (is_text (codes "reg")) (32 ∷ []) reg_sorted refl refl refl (image_rule Reg one_kind (λ t h. refl) (reg_rule room more (4 ∷ 10 ∷ []))) (image_rule Field one_kind (λ t h. refl) (field_rule room more (4 ∷ 10 ∷ []))))))
+    (or_rule (is_text (codes "addrmap")) (30 ∷ []) addrmap_sorted refl refl refl (image_rule Addrmap one_kind (λ t h. refl) (addrmap_rule room more (4 ∷ 10 ∷ [])))
+    (or_rule (is_text (codes "regfile")) (31 ∷ []) regfile_sorted refl refl refl (image_rule Regfile one_kind (λ t h. refl) (regfile_rule room more (4 ∷ 10 ∷ [])))
+    (or_rule (is_text (codes "reg")) (32 ∷ []) reg_sorted refl refl refl (image_rule Reg one_kind (λ t h. refl) (reg_rule room more (4 ∷ 10 ∷ []))) (image_rule Field one_kind (λ t h. refl) (field_rule room more (4 ∷ 10 ∷ []))))))

@@ -159,9 +159,9 @@ and_one true = refl
 and_one false = refl
 
 module _ (x0 : List ℕ) (k : ℕ) (not_one : (1 == k) ≡ false) (not_two : (2 == k) ≡ false) (not_word : (3 == k) ≡ false) (not_name : (4 == k) ≡ false) (not_mark : (5 == k) ≡ false)
-  (no_number : (v : ℕ) → is_token Num x0 v ≡ false) (no_string : (v : ℕ) → is_token Str x0 v ≡ false) where
+    (no_number : (v : ℕ) → is_token Num x0 v ≡ false) (no_string : (v : ℕ) → is_token Str x0 v ≡ false) where
   by_mark : ((v : ℕ) → is_token Word x0 v ≡ false) → only_at x0 k mark_table ≡ true → has x0 mark_table ≡ true → none_at k word_table ≡ true
-    → (kind : RdlTokenKind) (w : List ℕ) (v : ℕ) → is_token kind w v ≡ true → (sort_by kind w == k) ≡ bytes_eq w x0
+      → (kind : RdlTokenKind) (w : List ℕ) (v : ℕ) → is_token kind w v ≡ true → (sort_by kind w == k) ≡ bytes_eq w x0
   unfolding sort_by
   by_mark no_word only there none Num w v is = not_one ∙ sym (no_text Num x0 no_number w v is)
   by_mark no_word only there none Str w v is = not_two ∙ sym (no_text Str x0 no_string w v is)
@@ -169,7 +169,7 @@ module _ (x0 : List ℕ) (k : ℕ) (not_one : (1 == k) ≡ false) (not_two : (2 
   by_mark no_word only there none Mark w v is = found x0 k 5 not_mark mark_table only w ∙ rw there (and_one (bytes_eq w x0))
 
   by_word : ((v : ℕ) → is_token Mark x0 v ≡ false) → only_at x0 k word_table ≡ true → has x0 word_table ≡ true → none_at k mark_table ≡ true
-    → (kind : RdlTokenKind) (w : List ℕ) (v : ℕ) → is_token kind w v ≡ true → (sort_by kind w == k) ≡ bytes_eq w x0
+      → (kind : RdlTokenKind) (w : List ℕ) (v : ℕ) → is_token kind w v ≡ true → (sort_by kind w == k) ≡ bytes_eq w x0
   unfolding sort_by
   by_word no_mark only there none Num w v is = not_one ∙ sym (no_text Num x0 no_number w v is)
   by_word no_mark only there none Str w v is = not_two ∙ sym (no_text Str x0 no_string w v is)

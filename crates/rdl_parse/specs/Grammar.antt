@@ -84,7 +84,7 @@ reference = form (λ p. value.Reference p.0 p.1) (seq path (λ _. any_signal))
 unfoldable pub value_of : Reader RdlValue
 value_of =
     on (is_kind Num) (form value.Num number) (on (is_kind Str) (form value.Str (expect (is_kind Str)))
-      (on (is_text (codes "true")) (form value.True (mark (codes "true"))) (on (is_text (codes "false")) (form value.False (mark (codes "false"))) reference)))
+    (on (is_text (codes "true")) (form value.True (mark (codes "true"))) (on (is_text (codes "false")) (form value.False (mark (codes "false"))) reference)))
 
 unfoldable pub assigned : Reader RdlAssigned
 assigned = form (λ p. record { equals = p.0; value = p.1 }) (seq (mark (codes "=")) (λ _. value_of))
@@ -100,7 +100,7 @@ prop = form (λ p. record { name = p.0; value = p.1 }) (seq name (λ _. any_assi
 unfoldable pub range : Reader RdlRange
 range =
     form (λ p. record { «open» = p.0; first = p.1.0; second = p.1.1.0; close = p.1.1.1 })
-      (seq (mark (codes "[")) (λ _. seq number (λ _. seq (any_marked (codes ":")) (λ _. mark (codes "]")))))
+    (seq (mark (codes "[")) (λ _. seq number (λ _. seq (any_marked (codes ":")) (λ _. mark (codes "]")))))
 
 unfoldable pub any_range : Reader (Option RdlRange)
 any_range = optional (is_text (codes "[")) range
@@ -108,7 +108,7 @@ any_range = optional (is_text (codes "[")) range
 unfoldable pub inst : Reader RdlInst
 inst =
     form (λ p. record { name = p.0; range = p.1.0; reset = p.1.1.0; address = p.1.1.1.0; stride = p.1.1.1.1.0; alignment = p.1.1.1.1.1 })
-      (seq name (λ _. seq any_range (λ _. seq (any_marked (codes "=")) (λ _. seq (any_marked (codes "@")) (λ _. seq (any_marked (codes "+=")) (λ _. any_marked (codes "%=")))))))
+    (seq name (λ _. seq any_range (λ _. seq (any_marked (codes "=")) (λ _. seq (any_marked (codes "@")) (λ _. seq (any_marked (codes "+=")) (λ _. any_marked (codes "%=")))))))
 
 unfoldable pub next_inst : Reader RdlNextInst
 next_inst = form (λ p. record { comma = p.0; inst = p.1 }) (seq (mark (codes ",")) (λ _. inst))
@@ -141,7 +141,7 @@ any_body = optional (is_text (codes "{")) entry_body
 unfoldable pub entry : Reader RdlEntry
 entry =
     form (λ p. record { name = p.0; value = p.1.0; body = p.1.1.0; semi = p.1.1.1 })
-      (seq name (λ _. seq (any_marked (codes "=")) (λ _. seq any_body (λ _. mark (codes ";")))))
+    (seq name (λ _. seq (any_marked (codes "=")) (λ _. seq any_body (λ _. mark (codes ";")))))
 
 unfoldable pub entries : Reader (List RdlEntry)
 entries = many is_name entry
@@ -149,7 +149,7 @@ entries = many is_name entry
 unfoldable pub enumeration : Reader RdlEnum
 enumeration =
     form (λ p. record { word = p.0; name = p.1.0; «open» = p.1.1.0; entries = p.1.1.1.0; close = p.1.1.1.1.0; semi = p.1.1.1.1.1 })
-      (seq (mark (codes "enum")) (λ _. seq name (λ _. seq (mark (codes "{")) (λ _. seq entries (λ _. seq (mark (codes "}")) (λ _. mark (codes ";")))))))
+    (seq (mark (codes "enum")) (λ _. seq name (λ _. seq (mark (codes "{")) (λ _. seq entries (λ _. seq (mark (codes "}")) (λ _. mark (codes ";")))))))
 
 -- ---- items that begin with a name
 
@@ -159,7 +159,7 @@ use_tail = form (λ p. Use p.0 p.1) (seq insts (λ _. mark (codes ";")))
 unfoldable pub path_tail : Reader Tail
 path_tail =
     form (λ p. Path p.0 p.1.0 p.1.1.0 p.1.1.1.0 p.1.1.1.1)
-      (seq any_index (λ _. seq next_steps (λ _. seq (mark (codes "->")) (λ _. seq prop (λ _. mark (codes ";"))))))
+    (seq any_index (λ _. seq next_steps (λ _. seq (mark (codes "->")) (λ _. seq prop (λ _. mark (codes ";"))))))
 
 unfoldable pub prop_tail : Reader Tail
 prop_tail = form (λ p. Prop p.0 p.1) (seq any_assigned (λ _. mark (codes ";")))
@@ -187,7 +187,7 @@ is_kind_word t = is_text (codes "addrmap") t || is_text (codes "regfile") t || i
 unfoldable pub kind : Reader RdlKind
 kind =
     on (is_text (codes "addrmap")) (form Addrmap (mark (codes "addrmap"))) (on (is_text (codes "regfile")) (form Regfile (mark (codes "regfile")))
-      (on (is_text (codes "reg")) (form Reg (mark (codes "reg"))) (form Field (mark (codes "field")))))
+    (on (is_text (codes "reg")) (form Reg (mark (codes "reg"))) (form Field (mark (codes "field")))))
 
 unfoldable pub default_prop : Reader RdlItem
 default_prop = form (λ p. item.Default p.0 p.1.0 p.1.1) (seq (mark (codes "default")) (λ _. seq prop (λ _. mark (codes ";"))))
@@ -203,7 +203,7 @@ ending name = seq (insts_after name) (λ _. mark (codes ";"))
 unfoldable pub definition : Reader (List RdlItem) → Reader RdlDef
 definition inner =
     form (λ p. roll-RdlDef (record { kind = p.0; name = p.1.0; «open» = p.1.1.0; items = p.1.1.1.0; close = p.1.1.1.1.0; insts = p.1.1.1.1.1.0; semi = p.1.1.1.1.1.1 }))
-      (seq kind (λ _. seq any_name (λ name. seq (mark (codes "{")) (λ _. seq inner (λ _. seq (mark (codes "}")) (λ _. ending name))))))
+    (seq kind (λ _. seq any_name (λ name. seq (mark (codes "{")) (λ _. seq inner (λ _. seq (mark (codes "}")) (λ _. ending name))))))
 
 unfoldable pub item_of : Reader (List RdlItem) → Reader RdlItem
 item_of inner =

@@ -1,6 +1,6 @@
 //! A cursor over the tokens of a description.
 
-ghost use Rattle.std.specs.Prelude.{◌≡◌, ◌++◌, ◌∷◌, [], length, bytes_eq, IfOk};
+ghost use Rattle.std.specs.Prelude.{◌≡◌, length};
 ghost use Rattle.parsing.specs.Parser.{sees, expect, any_one, finish};
 ghost use Rattle.parsing.specs.Reads.{Reads};
 ghost use Rattle.rdl_parse.specs.Grammar.{place_of};
@@ -9,7 +9,7 @@ ghost use Rattle.rdl_tree.specs.Tree as tree;
 use bit_base::place::Place;
 use parsing::stop::Stop;
 use rdl_tree::token::{RdlToken, RdlTokenKind};
-use std::alloc::{AllocError, Global};
+use std::alloc::Global;
 use std::marker::Model;
 
 /// The tokens from the next one on.
@@ -25,52 +25,6 @@ impl<'a> Model for Cursor<'a> {
     ghost Value = { List RdlToken };
 
     ghost view = { λ c. c.rest.now };
-}
-
-fn copy_of(alloc: Global, token: &RdlToken) -> Result<RdlToken, AllocError>
-    ensures { IfOk result (λ t. t ≡ token.now) }
-{
-    Ok(RdlToken {
-        kind: token.kind,
-        text: token.text.copy(alloc)?,
-        value: token.value,
-        place: token.place,
-    })
-}
-
-#[tactic(auto, unfolding(rdl_tree::specs::Tree::is_reserved))]
-fn is_reserved(text: &[u8]) -> bool
-    ensures { result ≡ tree.is_reserved text.now }
-{
-    text == b"addrmap".as_slice()
-        || text == b"regfile".as_slice()
-        || text == b"reg".as_slice()
-        || text == b"field".as_slice()
-        || text == b"enum".as_slice()
-        || text == b"default".as_slice()
-        || text == b"true".as_slice()
-        || text == b"false".as_slice()
-        || text == b"signal".as_slice()
-        || text == b"mem".as_slice()
-        || text == b"constraint".as_slice()
-        || text == b"struct".as_slice()
-        || text == b"external".as_slice()
-        || text == b"internal".as_slice()
-        || text == b"alias".as_slice()
-        || text == b"property".as_slice()
-        || text == b"component".as_slice()
-        || text == b"abstract".as_slice()
-        || text == b"posedge".as_slice()
-        || text == b"negedge".as_slice()
-        || text == b"bothedge".as_slice()
-        || text == b"level".as_slice()
-        || text == b"nonsticky".as_slice()
-}
-
-fn is_name(token: &RdlToken) -> bool
-    ensures { result ≡ tree.is_name token.now }
-{
-    token.kind == RdlTokenKind::Word && !is_reserved(token.text.as_bytes())
 }
 
 impl<'a> Cursor<'a> {
@@ -92,7 +46,7 @@ impl<'a> Cursor<'a> {
     {
         match self.rest {
             [] => false,
-            [token, ..] => token.text.as_bytes() == bytes,
+            [token, ..] => token.is_text(bytes),
         }
     }
 
@@ -110,7 +64,7 @@ impl<'a> Cursor<'a> {
     {
         match self.rest {
             [] => false,
-            [token, ..] => is_name(token),
+            [token, ..] => token.is_name(),
         }
     }
 
@@ -122,7 +76,7 @@ impl<'a> Cursor<'a> {
         match self.rest.split_first() {
             None => Err(Stop::Refused),
             Some((token, rest)) => {
-                let taken = copy_of(alloc, token)?;
+                let taken = token.copy(alloc)?;
                 self.rest = rest;
                 Ok(taken)
             }

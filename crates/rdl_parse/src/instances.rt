@@ -8,7 +8,8 @@ use crate::properties::prop;
 use parsing::stop::Stop;
 use rdl_tree::token::{RdlToken, RdlTokenKind};
 use rdl_tree::tree::{
-    RdlEntry, RdlEntryBody, RdlEntryProp, RdlEnum, RdlInst, RdlInsts, RdlMarked, RdlNextInst, RdlRange,
+    RdlEntry, RdlEntryBody, RdlEntryProp, RdlEnum, RdlInst, RdlInsts, RdlMarked, RdlNextInst,
+    RdlRange,
 };
 use sqlite_items::Items;
 use std::alloc::Global;
@@ -98,17 +99,7 @@ fn next_inst(alloc: Global, tokens: &mut Cursor<'_>) -> Result<RdlNextInst, Stop
 }
 
 /// `{"," inst}`
-#[tactic(
-    auto,
-    using(
-        parsing::proofs::Turns::many_start,
-        parsing::proofs::Turns::many_ends,
-        parsing::proofs::Turns::many_over,
-        parsing::proofs::Turns::many_turns,
-        parsing::proofs::Turns::many_fails
-    ),
-    unfolding(crate::specs::Grammar::next_insts)
-)]
+#[tactic(auto, using(parsing::proofs::Turns::many_start, parsing::proofs::Turns::many_ends, parsing::proofs::Turns::many_over, parsing::proofs::Turns::many_turns, parsing::proofs::Turns::many_fails), unfolding(crate::specs::Grammar::next_insts))]
 fn next_insts(alloc: Global, tokens: &mut Cursor<'_>) -> Result<Items<RdlNextInst>, Stop>
     ensures { Reads (spec.next_insts tokens.old) result tokens.new }
 {
@@ -158,17 +149,7 @@ fn entry_prop(alloc: Global, tokens: &mut Cursor<'_>) -> Result<RdlEntryProp, St
 }
 
 /// `{prop ";"}`
-#[tactic(
-    auto,
-    using(
-        parsing::proofs::Turns::many_start,
-        parsing::proofs::Turns::many_ends,
-        parsing::proofs::Turns::many_over,
-        parsing::proofs::Turns::many_turns,
-        parsing::proofs::Turns::many_fails
-    ),
-    unfolding(crate::specs::Grammar::entry_props)
-)]
+#[tactic(auto, using(parsing::proofs::Turns::many_start, parsing::proofs::Turns::many_ends, parsing::proofs::Turns::many_over, parsing::proofs::Turns::many_turns, parsing::proofs::Turns::many_fails), unfolding(crate::specs::Grammar::entry_props))]
 fn entry_props(alloc: Global, tokens: &mut Cursor<'_>) -> Result<Items<RdlEntryProp>, Stop>
     ensures { Reads (spec.entry_props tokens.old) result tokens.new }
 {
@@ -222,17 +203,7 @@ fn entry(alloc: Global, tokens: &mut Cursor<'_>) -> Result<RdlEntry, Stop>
 }
 
 /// `{entry}`
-#[tactic(
-    auto,
-    using(
-        parsing::proofs::Turns::many_start,
-        parsing::proofs::Turns::many_ends,
-        parsing::proofs::Turns::many_over,
-        parsing::proofs::Turns::many_turns,
-        parsing::proofs::Turns::many_fails
-    ),
-    unfolding(crate::specs::Grammar::entries)
-)]
+#[tactic(auto, using(parsing::proofs::Turns::many_start, parsing::proofs::Turns::many_ends, parsing::proofs::Turns::many_over, parsing::proofs::Turns::many_turns, parsing::proofs::Turns::many_fails), unfolding(crate::specs::Grammar::entries))]
 fn entries(alloc: Global, tokens: &mut Cursor<'_>) -> Result<Items<RdlEntry>, Stop>
     ensures { Reads (spec.entries tokens.old) result tokens.new }
 {

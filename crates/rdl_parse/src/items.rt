@@ -69,13 +69,7 @@ enum Tail {
     /// Instances of a type and `;`.
     Use(RdlInsts, RdlToken),
     /// The rest of a path, `->`, a property and `;`.
-    Path(
-        Option<RdlIndex>,
-        Items<RdlNextStep>,
-        RdlToken,
-        RdlProp,
-        RdlToken,
-    ),
+    Path(Option<RdlIndex>, Items<RdlNextStep>, RdlToken, RdlProp, RdlToken),
     /// The rest of a property and `;`.
     Prop(Option<RdlAssigned>, RdlToken),
 }
@@ -226,16 +220,7 @@ fn item(alloc: Global, tokens: &mut Cursor<'_>, room: usize) -> Result<RdlItem, 
 
 /// `{item}`, down to so many levels.
 #[cycle(items)]
-#[tactic(
-    auto,
-    using(
-        parsing::proofs::Turns::many_ends,
-        parsing::proofs::Turns::many_over,
-        parsing::proofs::Turns::many_turns,
-        parsing::proofs::Turns::many_fails
-    ),
-    unfolding(crate::specs::Grammar::items)
-)]
+#[tactic(auto, using(parsing::proofs::Turns::many_ends, parsing::proofs::Turns::many_over, parsing::proofs::Turns::many_turns, parsing::proofs::Turns::many_fails), unfolding(crate::specs::Grammar::items))]
 pub fn items(alloc: Global, tokens: &mut Cursor<'_>, room: usize) -> Result<Items<RdlItem>, Stop>
     ensures { Reads (spec.items room tokens.old) result tokens.new }
 {

@@ -59,17 +59,7 @@ fn next_step(alloc: Global, tokens: &mut Cursor<'_>) -> Result<RdlNextStep, Stop
 }
 
 /// `{"." step}`
-#[tactic(
-    auto,
-    using(
-        parsing::proofs::Turns::many_start,
-        parsing::proofs::Turns::many_ends,
-        parsing::proofs::Turns::many_over,
-        parsing::proofs::Turns::many_turns,
-        parsing::proofs::Turns::many_fails
-    ),
-    unfolding(crate::specs::Grammar::next_steps)
-)]
+#[tactic(auto, using(parsing::proofs::Turns::many_start, parsing::proofs::Turns::many_ends, parsing::proofs::Turns::many_over, parsing::proofs::Turns::many_turns, parsing::proofs::Turns::many_fails), unfolding(crate::specs::Grammar::next_steps))]
 pub fn next_steps(alloc: Global, tokens: &mut Cursor<'_>) -> Result<Items<RdlNextStep>, Stop>
     ensures { Reads (spec.next_steps tokens.old) result tokens.new }
 {

@@ -1,11 +1,10 @@
 //! The one tree that tokens spell, or the first refusal.
 
 ghost use Rattle.std.specs.Prelude.{◌≡◌, ◌≤◌, IfOk, IfErr, MatchOption};
-ghost use Rattle.rdl_tree.specs.Tree.{IsReading, is_text};
+ghost use Rattle.rdl_tree.specs.Tree.{IsReading};
 ghost use Rattle.rdl_parse.specs.Depth as depth;
 ghost use Rattle.rdl_parse.specs.Depth.{IsShallow, IsFirstDeep};
 ghost use Rattle.rdl_parse.specs.Refusal.{Refuses};
-
 ghost use Rattle.rdl_parse.specs.Refusal.{OnCode, IsOfReader, HasNoReading, IsFirstFault, HasAtMostOneReading};
 ghost use Rattle.rdl_tree.specs.declared.fault.RdlCode.TheVariants as code;
 
@@ -21,20 +20,14 @@ use std::alloc::Global;
 /// How many brackets may be open.
 const LIMIT: u8 = 64;
 
-fn is_mark(token: &RdlToken, mark: &[u8]) -> bool
-    ensures { result ≡ is_text mark.now token.now }
-{
-    token.text.as_bytes() == mark
-}
-
 #[tactic(auto, unfolding(crate::specs::Depth::open_with))]
 fn open_with(count: u8, token: &RdlToken) -> u8
     requires { count ≤ 64 }
     ensures { result ≡ depth.open_with count token.now }
 {
-    if is_mark(token, b"{") || is_mark(token, b"[") {
+    if token.is_text(b"{") || token.is_text(b"[") {
         count + 1
-    } else if is_mark(token, b"}") || is_mark(token, b"]") {
+    } else if token.is_text(b"}") || token.is_text(b"]") {
         count.saturating_sub(1)
     } else {
         count
@@ -88,16 +81,7 @@ fn read(alloc: Global, tokens: &RdlTokens) -> Result<RdlFile, RdlFault>
 /// Refused are 103 at the first token at which over 64 brackets `{` and `[` are open, and else 102 where no
 /// fitting tree has these tokens: at the first token such that no fitting tree's tokens begin with those up to
 /// and including it, or at the end's place where there is no such token.
-#[tactic(
-    auto,
-    using(
-        crate::proofs::Faults::deep_fault,
-        crate::proofs::Faults::shallow_fault,
-        crate::proofs::Faults::unread_fault,
-        crate::proofs::Faults::first_of_faults,
-        crate::proofs::Faults::reader_fault
-    )
-)]
+#[tactic(auto, using(crate::proofs::Faults::deep_fault, crate::proofs::Faults::shallow_fault, crate::proofs::Faults::unread_fault, crate::proofs::Faults::first_of_faults, crate::proofs::Faults::reader_fault))]
 pub fn parse_rdl(alloc: Global, tokens: &RdlTokens) -> Result<RdlFile, RdlFault>
     ensures reading { IfOk result (IsReading tokens.now) }
     ensures not_too_deep { IfOk result (λ _. IsShallow tokens.now.list) }
@@ -114,5 +98,4 @@ pub fn parse_rdl(alloc: Global, tokens: &RdlTokens) -> Result<RdlFile, RdlFault>
 #[tactic(auto, using(crate::proofs::Theorem::one_reading))]
 pub fn at_most_one_reading()
     ensures { HasAtMostOneReading }
-{
-}
+{}
