@@ -1,0 +1,9 @@
+pub mod Sorts
+pub mod Build
+pub mod Tokens
+pub mod Rows
+pub mod Folds
+pub mod Nested
+pub mod Theorem
+pub mod Deep
+pub mod Faults
