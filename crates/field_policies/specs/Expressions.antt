@@ -27,23 +27,28 @@ value_at fields values hw n = option_map_or (value_of values hw n) (slice_get fi
 abbrev pub width_at : List Field → ℕ → ℕ
 width_at fields n = option_map_or (λ f. f.width) (slice_get fields n) 0
 
--- bit i of an expression; a reduction has one bit, whatever i is
-unfoldable pub expr_bit : List Field → List ℕ → List ℕ → HwExpr → ℕ → Bool
-expr_bit fields values hw (expr.Input k) i = bit (slice_index hw k) i
-expr_bit fields values hw (expr.Value n) i = bit (value_at fields values hw n) i
-expr_bit fields values hw (expr.Anded n) i = all_below (width_at fields n) (bit (value_at fields values hw n))
-expr_bit fields values hw (expr.Ored n) i = any_below (width_at fields n) (bit (value_at fields values hw n))
-expr_bit fields values hw (expr.Xored n) i = odd_below (width_at fields n) (bit (value_at fields values hw n))
+-- the number that a reduction gives
+abbrev pub one_if : Bool → ℕ
+one_if true = 1
+one_if false = 0
 
--- whether an expression that may be missing is there, and its bit is 1
+-- the value of an expression
+unfoldable pub expr_value : List Field → List ℕ → List ℕ → HwExpr → ℕ
+expr_value fields values hw (expr.Input k) = slice_index hw k
+expr_value fields values hw (expr.Value n) = value_at fields values hw n
+expr_value fields values hw (expr.Anded n) = one_if (all_below (width_at fields n) (bit (value_at fields values hw n)))
+expr_value fields values hw (expr.Ored n) = one_if (any_below (width_at fields n) (bit (value_at fields values hw n)))
+expr_value fields values hw (expr.Xored n) = one_if (odd_below (width_at fields n) (bit (value_at fields values hw n)))
+
+-- whether an expression of one bit that may be missing is there, and its bit is 1
 unfoldable pub is_given : List Field → List ℕ → List ℕ → Option HwExpr → Bool
 is_given fields values hw None = false
-is_given fields values hw (Some e) = expr_bit fields values hw e 0
+is_given fields values hw (Some e) = bit (expr_value fields values hw e) 0
 
 -- whether a gate is open at bit i: one that isn't there is
 unfoldable pub is_open : List Field → List ℕ → List ℕ → Option Gate → ℕ → Bool
 is_open fields values hw None i = true
-is_open fields values hw (Some g) i = if g.high then expr_bit fields values hw g.expr i else not (expr_bit fields values hw g.expr i)
+is_open fields values hw (Some g) i = if g.high then bit (expr_value fields values hw g.expr) i else not (bit (expr_value fields values hw g.expr) i)
 
 -- whether a field shows the output
 abbrev pub shows : Shown → OutSignal → Bool

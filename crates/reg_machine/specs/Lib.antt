@@ -1,0 +1,7 @@
+pub mod Bytes
+pub mod Conditions
+pub mod Machines
+pub mod Nexts
+pub mod OneField
+pub mod Steps
+pub mod Turns

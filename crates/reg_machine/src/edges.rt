@@ -1,0 +1,96 @@
+//! Edges of a bench.
+
+ghost use Rattle.std.specs.Prelude.{◌≤◌};
+ghost use Rattle.reg_machine.specs.Conditions.{AreInputs};
+ghost use Rattle.reg_machine.specs.OneField.{StandsAlone, inputs};
+
+use crate::bench::Bench;
+use crate::expr::{field_at, one_if};
+use crate::machine::{Answer, Machine};
+use crate::maps::map_of;
+use apb_rules::event::BusEvent;
+use field_policies::effect::ones;
+use field_policies::field::Field;
+use field_policies::signal::OutSignal;
+use std::alloc::{AllocError, Global};
+
+/// What hardware gives at an edge.
+#[derive(Clone, Copy, Drop)]
+pub struct Hardware {
+    pub data: u32,
+    pub set: bool,
+    pub enable: u32,
+    pub incr: bool,
+    pub decr: bool,
+}
+
+/// Nothing.
+pub const QUIET: Hardware = Hardware {
+    data: 0,
+    set: false,
+    enable: 0,
+    incr: false,
+    decr: false,
+};
+
+impl Bench {
+    pub fn new(alloc: Global, field: Field) -> Result<Bench, AllocError>
+        requires { StandsAlone field }
+    {
+        let width = field.width;
+        let map = map_of(alloc, field)?;
+        let machine = Machine::reset(alloc, &map)?;
+        Ok(Bench {
+            width,
+            map,
+            machine,
+        })
+    }
+
+    pub fn step(&mut self, event: BusEvent, hardware: Hardware) {
+        let hw = inputs_of(self.width, hardware);
+        self.machine.step(&self.map, event, &hw);
+    }
+
+    pub fn answer(&self, unmapped_error: bool, event: BusEvent) -> Answer {
+        let hw = inputs_of(self.width, QUIET);
+        self.machine.answer(&self.map, unmapped_error, event, &hw)
+    }
+
+    /// An output, where the field shows it.
+    pub fn output(&self, event: BusEvent, hardware: Hardware, signal: OutSignal) -> Option<u32> {
+        let hw = inputs_of(self.width, hardware);
+        if field_at(&self.map, 0).shown.has(signal) {
+            Some(self.machine.output(&self.map, event, &hw, 0, signal))
+        } else {
+            None
+        }
+    }
+
+    /// Whether an output counts, where the field shows it.
+    pub fn counts(&self, signal: OutSignal) -> Option<bool> {
+        if field_at(&self.map, 0).shown.has(signal) {
+            Some(self.machine.counts(&self.map, 0, signal))
+        } else {
+            None
+        }
+    }
+
+    pub fn value(&self) -> u32 {
+        self.machine.values[0]
+    }
+}
+
+// The numbers at the hardware inputs, cut to their widths.
+fn inputs_of(width: u32, hardware: Hardware) -> [u32; 8]
+    requires some { 1 ≤ width }
+    requires word { width ≤ 32 }
+    ensures { AreInputs (inputs width) result }
+{
+    let data = hardware.data & ones(width);
+    let enable = hardware.enable & ones(width);
+    let set = one_if(hardware.set);
+    let incr = one_if(hardware.incr);
+    let decr = one_if(hardware.decr);
+    [data, 0, set, 0, enable, 1, incr, decr]
+}
