@@ -6,7 +6,7 @@ use Rattle.prove_top.specs.Draws.{word, next_state, words_from}
 pub words_from-more : (words state : List ℕ) (count i : ℕ) → i < count
     → (words ++ word state ∷ []) ++ words_from (count - (i + 1)) (next_state state) ≡ words ++ words_from (count - i) state
 words_from-more words state count i below =
-  let e : count - i ≡ suc (count - (i + 1)) = omega arith in rw (append_assoc, e) refl
+    let e : count - i ≡ suc (count - (i + 1)) = omega arith in rw (append_assoc, e) refl
 
 length-words_from : (count : ℕ) (state : List ℕ) → length (words_from count state) ≡ count
 length-words_from zero state = refl

@@ -42,7 +42,7 @@ pub answer-step : (told : Option Files) (wanted : List Wanted) (i : ℕ) (want :
     → IfSome told (λ files. gathered files wanted ≡ prepended (contents (front ++ bytes ∷ [])) (gathered files (drop (i + 1) wanted)))
 answer-step None wanted i want front bytes below is so_far one = so_far
 answer-step (Some files) wanted i want front bytes below is so_far one =
-  so_far ∙ ap (prepended (contents front)) (gathered-drop files wanted i want below is ∙ ap (λ r. gather_more r (gathered files (drop (i + 1) wanted))) one)
+    so_far ∙ ap (prepended (contents front)) (gathered-drop files wanted i want below is ∙ ap (λ r. gather_more r (gathered files (drop (i + 1) wanted))) one)
     ∙ prepended-more (contents front) bytes.items (gathered files (drop (i + 1) wanted))
     ∙ ap (λ before. prepended before (gathered files (drop (i + 1) wanted))) (sym (map-append (λ v. v.items) front (bytes ∷ [])))
 
@@ -55,15 +55,15 @@ answer-short None wanted i want front why below is so_far one = so_far
 answer-short (Some files) wanted i want front (halt.Failed name) below is so_far one = one
 answer-short (Some files) wanted i want front halt.NoMemory below is so_far one = one
 answer-short (Some files) wanted i want front (halt.Short shortfall) below is so_far one =
-  so_far ∙ ap (prepended (contents front)) (gathered-drop files wanted i want below is ∙ ap (λ r. gather_more r (gathered files (drop (i + 1) wanted))) one)
+    so_far ∙ ap (prepended (contents front)) (gathered-drop files wanted i want below is ∙ ap (λ r. gather_more r (gathered files (drop (i + 1) wanted))) one)
 
 -- the names before, at and after a place
 names_of-parts : (wanted : List Wanted) (i : ℕ) (want : Wanted) → i < length wanted → want ≡ get_or wanted i want
     → names_of wanted ≡ names_of (take i wanted) ++ (want.name ∷ names_of (drop (i + 1) wanted))
 names_of-parts wanted i want below is =
-  ap names_of (sym (take-append-drop i wanted)) ∙ map-append (λ w. w.name) (take i wanted) (drop i wanted)
+    ap names_of (sym (take-append-drop i wanted)) ∙ map-append (λ w. w.name) (take i wanted) (drop i wanted)
     ∙ ap (λ rest. names_of (take i wanted) ++ names_of rest)
-        (rw (add-one i) (drop-cons wanted i want below) ∙ ap (λ w. w ∷ drop (i + 1) wanted) (sym is))
+    (rw (add-one i) (drop-cons wanted i want below) ∙ ap (λ w. w ∷ drop (i + 1) wanted) (sym is))
 
 last_read : (name : List ℕ) (back : List (List ℕ)) (answer : DepotAnswer) (rest : List DepotCall)
     → GoesOn answer (AreReads [] rest) (rest ≡ []) → GoesOn answer (AreReads back rest) (rest ≡ [])
@@ -83,8 +83,8 @@ reads_on (first ∷ front) name back calls reads = (refl, refl, reads_on front n
 pub reads_after : (wanted : List Wanted) (i : ℕ) (want : Wanted) (calls : List DepotCall) → i < length wanted → want ≡ get_or wanted i want
     → AreReads (want.name ∷ []) calls → AreReads (names_of wanted) (whole_reads (names_of (take i wanted)) ++ calls)
 reads_after wanted i want calls below is reads =
-  let P : List (List ℕ) → Type 0 = λ names. AreReads names (whole_reads (names_of (take i wanted)) ++ calls) in
-  subst P (sym (names_of-parts wanted i want below is)) (reads_on (names_of (take i wanted)) want.name (names_of (drop (i + 1) wanted)) calls reads)
+    let P : List (List ℕ) → Type 0 = λ names. AreReads names (whole_reads (names_of (take i wanted)) ++ calls) in
+    subst P (sym (names_of-parts wanted i want below is)) (reads_on (names_of (take i wanted)) want.name (names_of (drop (i + 1) wanted)) calls reads)
 
 -- reads that were all whole are the reads of their names
 pub reads_whole : (front back : List (List ℕ)) → AreReads (front ++ back) (whole_reads front)
@@ -107,7 +107,7 @@ after_calls-twice (Some calls) a b = ap Some (append_assoc calls a b)
 pub whole_reads-step : (wanted : List Wanted) (i : ℕ) (want : Wanted) → i < length wanted → want ≡ get_or wanted i want
     → whole_reads (names_of (take (i + 1) wanted)) ≡ whole_reads (names_of (take i wanted)) ++ one_call want.name false answered.Whole
 whole_reads-step wanted i want below is =
-  ap (λ front. whole_reads (names_of front)) (rw (add-one i) (take-suc wanted i want below) ∙ ap (λ w. take i wanted ++ w ∷ []) (sym is))
+    ap (λ front. whole_reads (names_of front)) (rw (add-one i) (take-suc wanted i want below) ∙ ap (λ w. take i wanted ++ w ∷ []) (sym is))
     ∙ ap whole_reads (map-append (λ w. w.name) (take i wanted) (want ∷ []))
     ∙ whole_reads-append (names_of (take i wanted)) (want.name ∷ [])
 
@@ -131,13 +131,14 @@ pub reads-halted : (A : Type 0) (before middle after : Option (List DepotCall)) 
     → ReadsOnly (want.name ∷ []) middle after (HasEntry {A = Vec ℕ Global} want.name (Err why))
     → ReadsOnly (names_of wanted) before after (λ added. HaltedBy {A = A} (Err why) (failed_of added))
 reads-halted A before middle after wanted i want why below is so_far one =
-  let front = whole_reads (names_of (take i wanted)) in
-  let P : Option (List ℕ) → Type 0 = λ failed. HaltedBy {A = A} (Err why) failed in
-  record {
-    added = front ++ one.added;
-    told = one.told ∙ ap (λ told. after_calls told one.added) so_far ∙ after_calls-twice before front one.added;
-    reads = reads_after wanted i want one.added below is (entry-reads want.name why one.added one.ends);
-    ends = subst P (sym (failed-whole (names_of (take i wanted)) one.added)) (entry-halted A want.name why one.added one.ends) }
+    let front = whole_reads (names_of (take i wanted)) in
+    let P : Option (List ℕ) → Type 0 = λ failed. HaltedBy {A = A} (Err why) failed in
+    record {
+      added = front ++ one.added;
+      told = one.told ∙ ap (λ told. after_calls told one.added) so_far ∙ after_calls-twice before front one.added;
+      reads = reads_after wanted i want one.added below is (entry-reads want.name why one.added one.ends);
+      ends = subst P (sym (failed-whole (names_of (take i wanted)) one.added)) (entry-halted A want.name why one.added one.ends);
+    }
 
 -- the calls after one more file
 pub calls-step : (before middle after : Option (List DepotCall)) (wanted : List Wanted) (i : ℕ) (want : Wanted) (bytes : Vec ℕ Global)
@@ -146,7 +147,7 @@ pub calls-step : (before middle after : Option (List DepotCall)) (wanted : List 
     → ReadsOnly (want.name ∷ []) middle after (HasEntry {A = Vec ℕ Global} want.name (Ok bytes))
     → after ≡ after_calls before (whole_reads (names_of (take (i + 1) wanted)))
 calls-step before middle after wanted i want bytes below is so_far one =
-  one.told ∙ ap (after_calls middle) one.ends
+    one.told ∙ ap (after_calls middle) one.ends
     ∙ ap (λ told. after_calls told (one_call want.name false answered.Whole)) so_far
     ∙ after_calls-twice before (whole_reads (names_of (take i wanted))) (one_call want.name false answered.Whole)
     ∙ ap (after_calls before) (sym (whole_reads-step wanted i want below is))
@@ -160,19 +161,20 @@ pub reads-all : (before after : Option (List DepotCall)) (wanted : List Wanted) 
     → after ≡ after_calls before (whole_reads (names_of (take i wanted)))
     → ReadsOnly (names_of wanted) before after (λ added. failed_of added ≡ None)
 reads-all before after wanted i so_far =
-  let P : List (List ℕ) → Type 0 = λ names. AreReads names (whole_reads (names_of (take i wanted))) in
-  let parts : names_of (take i wanted) ++ names_of (drop i wanted) ≡ names_of wanted =
+    let P : List (List ℕ) → Type 0 = λ names. AreReads names (whole_reads (names_of (take i wanted))) in
+    let parts : names_of (take i wanted) ++ names_of (drop i wanted) ≡ names_of wanted =
     sym (map-append (λ w. w.name) (take i wanted) (drop i wanted)) ∙ ap names_of (take-append-drop i wanted) in
-  record {
-    added = whole_reads (names_of (take i wanted));
-    told = so_far;
-    reads = subst P parts (reads_whole (names_of (take i wanted)) (names_of (drop i wanted)));
-    ends = failed-whole-none (names_of (take i wanted)) }
+    record {
+      added = whole_reads (names_of (take i wanted));
+      told = so_far;
+      reads = subst P parts (reads_whole (names_of (take i wanted)) (names_of (drop i wanted)));
+      ends = failed-whole-none (names_of (take i wanted));
+    }
 
 -- the calls where memory is wanted after a whole file
 pub reads-wanting-memory : (before after : Option (List DepotCall)) (wanted : List Wanted) (i : ℕ)
     → after ≡ after_calls before (whole_reads (names_of (take (i + 1) wanted)))
     → ReadsOnly (names_of wanted) before after (λ added. Unit {0})
 reads-wanting-memory before after wanted i so_far =
-  let all = reads-all before after wanted (i + 1) so_far in
-  record { added = all.added; told = all.told; reads = all.reads; ends = tt }
+    let all = reads-all before after wanted (i + 1) so_far in
+    record { added = all.added; told = all.told; reads = all.reads; ends = tt }

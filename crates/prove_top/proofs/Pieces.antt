@@ -8,20 +8,20 @@ use Rattle.prove_top.specs.Texts.{between, middle_of}
 
 pub between-text : (head m tail : List ℕ) → between head tail (head ++ (m ++ tail)) ≡ m
 between-text head m tail =
-  let n : length (head ++ (m ++ tail)) - length head - length tail ≡ length m = simp length-append (omega arith) in
-  rw (n, drop-append_seam head (m ++ tail)) (take-append_seam m tail)
+    let n : length (head ++ (m ++ tail)) - length head - length tail ≡ length m = simp length-append (omega arith) in
+    rw (n, drop-append_seam head (m ++ tail)) (take-append_seam m tail)
 
 pub middle_of-text : (head m tail : List ℕ) → middle_of head tail (head ++ (m ++ tail)) ≡ Some m
 unfolding middle_of
 middle_of-text head m tail =
-  rw (between-text head m tail)
+    rw (between-text head m tail)
     (cond-true (bytes_eq (head ++ (m ++ tail)) (head ++ (m ++ tail))) (Some m) None
-      ((bytes_eq-Decides (head ++ (m ++ tail)) (head ++ (m ++ tail))).1 refl))
+    ((bytes_eq-Decides (head ++ (m ++ tail)) (head ++ (m ++ tail))).1 refl))
 
 pub middle_of-none : (head tail bytes : List ℕ) → ((m : List ℕ) → bytes ≡ head ++ (m ++ tail) → ⊥) → middle_of head tail bytes ≡ None
 unfolding middle_of
 middle_of-none head tail bytes none =
-  cond-false (bytes_eq bytes (head ++ (between head tail bytes ++ tail))) (Some (between head tail bytes)) None
+    cond-false (bytes_eq bytes (head ++ (between head tail bytes ++ tail))) (Some (between head tail bytes)) None
     (false_from_ne_true _ (λ same. none (between head tail bytes) ((bytes_eq-Decides bytes (head ++ (between head tail bytes ++ tail))).0 same)))
 
 -- at a text whose parts are known by position
@@ -43,11 +43,11 @@ head-piece head m tail bytes front is here = rw (here, is) (take-append_seam hea
 pub tail-piece : (head m tail bytes rest back : List ℕ) → bytes ≡ head ++ (m ++ tail) → rest ≡ drop (length head) bytes
     → back ≡ drop (length rest - length tail) rest → back ≡ tail
 tail-piece head m tail bytes rest back is one two =
-  let all : rest ≡ m ++ tail = rw (one, is) (drop-append_seam head (m ++ tail)) in
-  let n : length (m ++ tail) - length tail ≡ length m = simp length-append (omega arith) in
-  rw (two, all, n) (drop-append_seam m tail)
+    let all : rest ≡ m ++ tail = rw (one, is) (drop-append_seam head (m ++ tail)) in
+    let n : length (m ++ tail) - length tail ≡ length m = simp length-append (omega arith) in
+    rw (two, all, n) (drop-append_seam m tail)
 
 pub too-short : (head m tail bytes : List ℕ) → bytes ≡ head ++ (m ++ tail) → (length bytes < length head) ⊎ (length bytes - length head < length tail) → ⊥
 too-short head m tail bytes is short =
-  let n : length bytes ≡ length head + (length m + length tail) = rw is (simp length-append) in
-  elim short [ inl a ↦ omega arith | inr b ↦ omega arith ]
+    let n : length bytes ≡ length head + (length m + length tail) = rw is (simp length-append) in
+    elim short [ inl a ↦ omega arith | inr b ↦ omega arith ]

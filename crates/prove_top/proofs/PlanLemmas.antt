@@ -14,21 +14,21 @@ use Rattle.prove_top.specs.Words.{command_of}
 answer-usage : (report : Report) → IsAnswer report → IsUsage report → ⊥
 answer-usage Usage answer usage = answer
 answer-usage (Refused why file) answer usage = usage
-answer-usage (Refuted edge what) answer usage = usage
+answer-usage (Refuted edge what trace) answer usage = usage
 answer-usage Simulated answer usage = usage
 answer-usage (FaultRead file) answer usage = usage
 
 answer-tells : (report : Report) (failed : Option (List ℕ)) → IsAnswer report → failed ≡ None → TellsFailed report failed
 answer-tells Usage failed answer none = none
 answer-tells (Refused why file) failed answer none = none
-answer-tells (Refuted edge what) failed answer none = none
+answer-tells (Refuted edge what trace) failed answer none = none
 answer-tells Simulated failed answer none = none
 answer-tells (FaultRead file) failed answer none = absurd answer
 
 answer-rose : (report : Report) (P : Type 0) → IsAnswer report → IfFault report P
 answer-rose Usage P answer = tt
 answer-rose (Refused why file) P answer = tt
-answer-rose (Refuted edge what) P answer = tt
+answer-rose (Refuted edge what trace) P answer = tt
 answer-rose Simulated P answer = tt
 answer-rose (FaultRead file) P answer = absurd answer
 
@@ -48,12 +48,13 @@ pub reads-answered : {E : Type 0} (asked wanted : List Wanted) (before after : O
     → ReadsOnly (names_of asked) before after (λ added. failed_of added ≡ None)
     → ReadsOnly (names_of wanted) before after (λ added. IfOk r (λ report. TellsFailed report (failed_of added)))
 reads-answered asked wanted before after r same answer all =
-  let P : List Wanted → Type 0 = λ w. AreReads (names_of w) all.added in
-  record {
-    added = all.added;
-    told = all.told;
-    reads = subst P same all.reads;
-    ends = answered-tells r (failed_of all.added) answer all.ends }
+    let P : List Wanted → Type 0 = λ w. AreReads (names_of w) all.added in
+    record {
+      added = all.added;
+      told = all.told;
+      reads = subst P same all.reads;
+      ends = answered-tells r (failed_of all.added) answer all.ends;
+    }
 
 report_of-command : (files : Files) (words : List (List ℕ)) (command : Command) → command_of words ≡ Some command → report_of files words ≡ command_answer files command
 report_of-command files [] command is = cc
@@ -64,5 +65,5 @@ pub plan-answer : {E : Type 0} (told : Option Files) (r : Result Report E) (word
     → IfSome told (λ files. IfOk r (λ report. UnlessFault report (report ≡ report_of files words)))
 plan-answer None r words command is h = h
 plan-answer (Some files) r words command is h =
-  let P : Report → Type 0 = λ expected. IfOk r (λ report. UnlessFault report (report ≡ expected)) in
-  subst P (sym (report_of-command files words command is)) h
+    let P : Report → Type 0 = λ expected. IfOk r (λ report. UnlessFault report (report ≡ expected)) in
+    subst P (sym (report_of-command files words command is)) h

@@ -18,22 +18,23 @@ use Rattle.prove_top.specs.declared.verilog.Drivers.{Drivers}
 use Rattle.prove_top.specs.declared.words.Command.{Command}
 use Rattle.prove_top.specs.Description.{reset_of}
 use Rattle.prove_top.specs.Gather.{gathered, names_of}
-use Rattle.prove_top.specs.Sampled.{sampled}
+use Rattle.prove_top.specs.Sampled.{sampled, sampled_trace}
 use Rattle.prove_top.specs.Verilog.{drivers_of}
 use Rattle.prove_top.specs.Words.{command_of}
 
 -- the files of a command, in the order of its words
 abbrev pub wanted_of : Command → List Wanted
 wanted_of command =
-  record { name = command.rdl; limit = DESCRIPTION_LIMIT; kind = Description }
-  ∷ record { name = command.ports; limit = PORTS_LIMIT; kind = Ports }
-  ∷ record { name = command.verilog; limit = VERILOG_LIMIT; kind = Verilog } ∷ []
+    record { name = command.rdl; limit = DESCRIPTION_LIMIT; kind = Description }
+    ∷ record { name = command.ports; limit = PORTS_LIMIT; kind = Ports }
+    ∷ record { name = command.verilog; limit = VERILOG_LIMIT; kind = Verilog } ∷ []
 
 -- what the files lack, as a refusal
 abbrev pub size_refusal : Kind → Refusal
 size_refusal Description = RdlSize
 size_refusal Ports = PortSize
 size_refusal Verilog = VlogSize
+
 abbrev pub short_report : Shortfall → Report
 short_report (Missing name) = Refused NoFile name
 short_report (Long kind name) = Refused (size_refusal kind) name
@@ -49,20 +50,23 @@ block_with None drivers ports = Err Description
 block_with (Some reset) None ports = Err Verilog
 block_with (Some reset) (Some drivers) false = Err Ports
 block_with (Some reset) (Some drivers) true = Ok (record { reset = reset; read_data = drivers.read_data; next = drivers.next })
+
 abbrev pub block_of : List ℕ → List ℕ → List ℕ → Result Block Kind
 block_of rdl ports verilog = block_with (reset_of rdl) (drivers_of verilog) (bytes_eq ports PORTS.now)
 
--- the report of the sampled run
-abbrev pub difference_report : Option (ℕ × Difference) → Report
-difference_report None = Simulated
-difference_report (Some first) = Refuted first.0 first.1
+-- the report of the sampled run: its first difference, and its trace, cut after that edge
+abbrev pub difference_report : Block → ℕ → Option (ℕ × Difference) → Report
+difference_report block seed None = Simulated
+difference_report block seed (Some first) = Refuted first.0 first.1 (sampled_trace block seed first.0)
+
 unfoldable pub run_report : Block → ℕ → Report
-run_report block seed = difference_report (sampled block seed)
+run_report block seed = difference_report block seed (sampled block seed)
 
 -- the report of a command on its three texts
 abbrev pub block_report : Command → Result Block Kind → Report
 block_report command (Ok block) = run_report block command.seed
 block_report command (Err kind) = Refused NotYet (name_of command kind)
+
 unfoldable pub answer_to : Command → List ℕ → List ℕ → List ℕ → Report
 answer_to command rdl ports verilog = block_report command (block_of rdl ports verilog)
 
@@ -70,6 +74,7 @@ answer_to command rdl ports verilog = block_report command (block_of rdl ports v
 abbrev pub files_report : Command → Result (List (List ℕ)) Shortfall → Report
 files_report command (Err short) = short_report short
 files_report command (Ok files) = answer_to command (slice_index_or files 0 []) (slice_index_or files 1 []) (slice_index_or files 2 [])
+
 abbrev pub command_answer : Files → Command → Report
 command_answer files command = files_report command (gathered files (wanted_of command))
 
@@ -77,6 +82,7 @@ command_answer files command = files_report command (gathered files (wanted_of c
 abbrev pub command_report : Files → Option Command → Report
 command_report files None = Refused NotYet (codes "words")
 command_report files (Some command) = command_answer files command
+
 abbrev pub report_of : Files → List (List ℕ) → Report
 report_of files [] = Usage
 report_of files (word ∷ words) = command_report files (command_of (word ∷ words))
@@ -85,6 +91,7 @@ report_of files (word ∷ words) = command_report files (command_of (word ∷ wo
 abbrev pub command_names : Option Command → List (List ℕ)
 command_names None = []
 command_names (Some command) = names_of (wanted_of command)
+
 abbrev pub names_asked : List (List ℕ) → List (List ℕ)
 names_asked words = command_names (command_of words)
 
@@ -92,26 +99,29 @@ names_asked words = command_names (command_of words)
 abbrev pub IsUsage : Report → Type 0
 IsUsage Usage = ⊤
 IsUsage (Refused why file) = ⊥
-IsUsage (Refuted edge what) = ⊥
+IsUsage (Refuted edge what trace) = ⊥
 IsUsage Simulated = ⊥
 IsUsage (FaultRead file) = ⊥
+
 abbrev pub IsAnswer : Report → Type 0
 IsAnswer Usage = ⊥
 IsAnswer (Refused why file) = ⊤
-IsAnswer (Refuted edge what) = ⊤
+IsAnswer (Refuted edge what trace) = ⊤
 IsAnswer Simulated = ⊤
 IsAnswer (FaultRead file) = ⊥
+
 abbrev pub IfFault : Report → Type 0 → Type 0
 IfFault (FaultRead file) P = P
 IfFault Usage P = ⊤
 IfFault (Refused why file) P = ⊤
-IfFault (Refuted edge what) P = ⊤
+IfFault (Refuted edge what trace) P = ⊤
 IfFault Simulated P = ⊤
+
 abbrev pub UnlessFault : Report → Type 0 → Type 0
 UnlessFault (FaultRead file) P = ⊤
 UnlessFault Usage P = P
 UnlessFault (Refused why file) P = P
-UnlessFault (Refuted edge what) P = P
+UnlessFault (Refuted edge what trace) P = P
 UnlessFault Simulated P = P
 
 -- a report names the read that failed, where one did
@@ -119,5 +129,5 @@ abbrev pub TellsFailed : Report → Option (List ℕ) → Type 0
 TellsFailed (FaultRead name) failed = failed ≡ Some name
 TellsFailed Usage failed = failed ≡ None
 TellsFailed (Refused why file) failed = failed ≡ None
-TellsFailed (Refuted edge what) failed = failed ≡ None
+TellsFailed (Refuted edge what trace) failed = failed ≡ None
 TellsFailed Simulated failed = failed ≡ None

@@ -15,5 +15,6 @@ description_text reset = DESCRIPTION_HEAD.now ++ (decimal reset ++ DESCRIPTION_T
 abbrev pub small : Option ℕ → Option ℕ
 small (Some value) = if nat_lt value 256 then Some value else None
 small None = None
+
 unfoldable pub reset_of : List ℕ → Option ℕ
 reset_of bytes = option_and_then (λ number. small (plain_value number)) (middle_of DESCRIPTION_HEAD.now DESCRIPTION_TAIL.now bytes)

@@ -6,8 +6,10 @@ use Rattle.rand_xoshiro.specs.SplitMix64.{splitmix_seed}
 -- the state of a seed, and the word and the next state of a state
 unfoldable pub seeded : ℕ → List ℕ
 seeded seed = of_seed (splitmix_seed 32 seed)
+
 unfoldable pub word : List ℕ → ℕ
 word state = (plus_plus state).0
+
 unfoldable pub next_state : List ℕ → List ℕ
 next_state state = (plus_plus state).1
 

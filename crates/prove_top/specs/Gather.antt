@@ -23,6 +23,7 @@ abbrev pub gather_more : Result (List ℕ) Shortfall → Result (List (List ℕ)
 gather_more (Err short) more = Err short
 gather_more (Ok bytes) (Err short) = Err short
 gather_more (Ok bytes) (Ok files) = Ok (bytes ∷ files)
+
 abbrev pub gathered : Files → List Wanted → Result (List (List ℕ)) Shortfall
 gathered files [] = Ok []
 gathered files (want ∷ wanted) = gather_more (fetched_one want (files want.name)) (gathered files wanted)
@@ -32,6 +33,7 @@ abbrev pub IfShort : Halt → (Shortfall → Type 0) → Type 0
 IfShort (Short short) P = P short
 IfShort (Failed name) P = ⊤
 IfShort NoMemory P = ⊤
+
 abbrev pub IfFailed : Halt → Type 0 → Type 0
 IfFailed (Failed name) P = P
 IfFailed (Short short) P = ⊤
@@ -44,5 +46,6 @@ contents files = map (λ v. v.items) files
 -- the answer of a fetch, for one file and for all: the files' own where it is bytes or a shortfall
 abbrev pub AnswersOne : Result (List ℕ) Shortfall → Result (Vec ℕ Global) Halt → Type 0
 AnswersOne expected result = MatchResult result (λ bytes. expected ≡ Ok bytes.items) (λ halt. IfShort halt (λ short. expected ≡ Err short))
+
 abbrev pub AnswersAs : Result (List (List ℕ)) Shortfall → Result (Vec (Vec ℕ Global) Global) Halt → Type 0
 AnswersAs expected result = MatchResult result (λ files. expected ≡ Ok (contents files.items)) (λ halt. IfShort halt (λ short. expected ≡ Err short))

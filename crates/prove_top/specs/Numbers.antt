@@ -7,5 +7,5 @@ use Rattle.std.specs.Fmt.{decimal}
 -- the number below 2^64 whose decimal text these bytes are
 unfoldable pub plain_value : List ℕ → Option ℕ
 plain_value bytes =
-  if nat_lt (digits_value 10 bytes) (2 ^ 64) && bytes_eq bytes (decimal (digits_value 10 bytes))
-  then Some (digits_value 10 bytes) else None
+    if nat_lt (digits_value 10 bytes) (2 ^ 64) && bytes_eq bytes (decimal (digits_value 10 bytes))
+    then Some (digits_value 10 bytes) else None

@@ -21,7 +21,7 @@ abbrev pub AreReads : List (List ℕ) → List DepotCall → Type 0
 AreReads names [] = ⊤
 AreReads [] (call ∷ calls) = ⊥
 AreReads (name ∷ names) (call ∷ calls) =
-  (call.name ≡ name) × (call.store ≡ false) × GoesOn call.answer (AreReads names calls) (calls ≡ [])
+    (call.name ≡ name) × (call.store ≡ false) × GoesOn call.answer (AreReads names calls) (calls ≡ [])
 
 -- the name of the call that failed
 abbrev pub failed_name : DepotAnswer → List ℕ → Option (List ℕ) → Option (List ℕ)
@@ -30,6 +30,7 @@ failed_name answered.Whole name more = more
 failed_name answered.Long name more = more
 failed_name answered.Missing name more = more
 failed_name answered.Stored name more = more
+
 abbrev pub failed_of : List DepotCall → Option (List ℕ)
 failed_of [] = None
 failed_of (call ∷ calls) = failed_name call.answer call.name (failed_of calls)
@@ -52,6 +53,7 @@ HaltedBy (Err halt.NoMemory) failed = ⊤
 abbrev pub ShortEntry : List ℕ → Shortfall → List DepotCall → Type 0
 ShortEntry name (short.Missing which) added = added ≡ one_call name false answered.Missing
 ShortEntry name (short.Long kind which) added = added ≡ one_call name false answered.Long
+
 abbrev pub HasEntry : {A : Type 0} → List ℕ → Result A Halt → List DepotCall → Type 0
 HasEntry name (Ok bytes) added = added ≡ one_call name false answered.Whole
 HasEntry name (Err (halt.Failed which)) added = (which ≡ name) × (added ≡ one_call name false answered.Failed)

@@ -8,8 +8,10 @@ use Rattle.prove_top.specs.declared.words.Command.{Command}
 -- a name has 1 to 255 bytes from `!` to `~`, and doesn't begin with `--`
 abbrev pub is_graphic : ℕ → Bool
 is_graphic byte = nat_le 0x21 byte && nat_le byte 0x7E
+
 abbrev pub all_graphic : List ℕ → Bool
 all_graphic name = list_all is_graphic name
+
 abbrev pub is_name : List ℕ → Bool
 is_name name = nat_lt 0 (length name) && nat_le (length name) 255 && not (starts_with nat_eq name (codes "--")) && all_graphic name
 
@@ -27,6 +29,6 @@ with_seed rdl ports verilog (Some seed) = Some (record { rdl = rdl; ports = port
 -- `prove RDL PORTS VLOG`, or these and `--seed S`
 abbrev pub command_of : List (List ℕ) → Option Command
 command_of (verb ∷ rdl ∷ ports ∷ verilog ∷ options) =
-  if bytes_eq verb (codes "prove") && is_name rdl && is_name ports && is_name verilog
-  then with_seed rdl ports verilog (seed_of options) else None
+    if bytes_eq verb (codes "prove") && is_name rdl && is_name ports && is_name verilog
+    then with_seed rdl ports verilog (seed_of options) else None
 command_of _ = None

@@ -8,7 +8,9 @@ use crate::texts::middle;
 use std::alloc::{AllocError, Global};
 
 /// What stands before and after the reset value.
-pub(crate) const DESCRIPTION_HEAD: &[u8] = b"addrmap a { reg { regwidth=8; field { sw=rw; hw=r; } v[8]=";
+pub(crate) const DESCRIPTION_HEAD: &[u8] =
+    b"addrmap a { reg { regwidth=8; field { sw=rw; hw=r; } v[8]=";
+
 pub(crate) const DESCRIPTION_TAIL: &[u8] = b"; } c; };\n";
 
 /// The number, where it is below 256.

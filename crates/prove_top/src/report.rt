@@ -1,7 +1,7 @@
 //! What a command reports: a status, and a line.
 
 ghost use Rattle.std.specs.Prelude.{◌≡◌, ◌++◌, IfOk};
-ghost use Rattle.prove_top.specs.Report.{status_of, text_of, line_of, refusal_head, refusal_tail, difference_text, refuted_line};
+ghost use Rattle.prove_top.specs.Report.{status_number, status_of, heading_of, trace_of, line_of, refusal_head, refusal_tail, difference_text, refuted_line};
 
 use bit_base::text::Text;
 use std::alloc::{AllocError, Global};
@@ -20,6 +20,23 @@ pub enum Status {
     NoMemory,
 }
 
+impl Status {
+    /// Its number, from 0 to 6.
+    pub fn number(self) -> u8
+        ensures { result ≡ status_number self }
+    {
+        match self {
+            Status::Yes => 0,
+            Status::No => 1,
+            Status::Unknown => 2,
+            Status::Refused => 3,
+            Status::Usage => 4,
+            Status::Fault => 5,
+            Status::NoMemory => 6,
+        }
+    }
+}
+
 /// Why a command is refused: the description, the Verilog or the ports file is too long, a file
 /// isn't there, or a form isn't read yet.
 #[derive(Clone, Copy)]
@@ -31,12 +48,12 @@ pub(crate) enum Refusal {
     NotYet,
 }
 
-/// What a command reports.
+/// What a command reports; `Refuted` has the edge, the difference and the text of the trace.
 #[derive(Drop)]
 pub(crate) enum Report {
     Usage,
     Refused(Refusal, Text),
-    Refuted(usize, Difference),
+    Refuted(usize, Difference, Text),
     Simulated,
     FaultRead(Text),
 }
@@ -49,20 +66,29 @@ impl Report {
         match self {
             Report::Usage => Status::Usage,
             Report::Refused(_, _) => Status::Refused,
-            Report::Refuted(_, _) => Status::No,
+            Report::Refuted(_, _, _) => Status::No,
             Report::Simulated => Status::Unknown,
             Report::FaultRead(_) => Status::Fault,
         }
     }
 
-    /// Its text: its line and a line feed.
-    #[tactic(auto, unfolding(crate::specs::Report::text_of))]
-    pub fn text(&self, alloc: Global) -> Result<Vec<u8>, AllocError>
-        ensures { IfOk result (λ text. text.items ≡ text_of self.now) }
+    /// Its line and a line feed.
+    pub fn heading(&self, alloc: Global) -> Result<Vec<u8>, AllocError>
+        ensures { IfOk result (λ text. text.items ≡ heading_of self.now) }
     {
         let mut text = self.line(alloc)?;
         text.push(b'\n')?;
         Ok(text)
+    }
+
+    /// The trace text that follows, empty where there is none.
+    pub fn trace(&self) -> &[u8]
+        ensures { result.now ≡ trace_of self.now }
+    {
+        match self {
+            Report::Refuted(_, _, trace) => trace.as_bytes(),
+            _ => b"".as_slice(),
+        }
     }
 
     /// Its line.
@@ -70,11 +96,23 @@ impl Report {
         ensures { IfOk result (λ line. line.items ≡ line_of self.now) }
     {
         match self {
-            Report::Usage => b"usage: rdlprove prove, check, replay, map, sample or equal".as_slice().to_vec(alloc),
-            Report::Refused(refusal, file) => joined(alloc, refusal_head(*refusal), file.as_bytes(), refusal_tail(*refusal)),
-            Report::Refuted(edge, difference) => refuted_line(alloc, *edge, *difference),
+            Report::Usage => b"usage: rdlprove prove, check, replay, map, sample or equal"
+                .as_slice()
+                .to_vec(alloc),
+            Report::Refused(refusal, file) => joined(
+                alloc,
+                refusal_head(*refusal),
+                file.as_bytes(),
+                refusal_tail(*refusal),
+            ),
+            Report::Refuted(edge, difference, _) => refuted_line(alloc, *edge, *difference),
             Report::Simulated => b"unknown simulated".as_slice().to_vec(alloc),
-            Report::FaultRead(file) => joined(alloc, b"fault read ".as_slice(), file.as_bytes(), b"".as_slice()),
+            Report::FaultRead(file) => joined(
+                alloc,
+                b"fault read ".as_slice(),
+                file.as_bytes(),
+                b"".as_slice(),
+            ),
         }
     }
 }
@@ -131,7 +169,12 @@ fn refuted_line(alloc: Global, edge: usize, difference: Difference) -> Result<Ve
     ensures { IfOk result (λ line. line.items ≡ refuted_line edge difference) }
 {
     let number = edge.to_string(alloc)?;
-    joined(alloc, b"refuted edge=".as_slice(), number.as_bytes(), difference_text(difference))
+    joined(
+        alloc,
+        b"refuted edge=".as_slice(),
+        number.as_bytes(),
+        difference_text(difference),
+    )
 }
 
 /// The line of want of memory.

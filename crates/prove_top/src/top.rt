@@ -3,9 +3,9 @@
 ghost use Rattle.std.specs.Prelude.{◌≡◌, ◌≤◌, ◌↔◌, ◌⊎◌, [], IfOk, IfSome};
 ghost use Rattle.tool_edge.specs.Causes.{Rose};
 ghost use Rattle.tool_edge.specs.Written.{after_put, AppendsPart};
-ghost use Rattle.prove_top.specs.Report.{status_of, text_of};
+ghost use Rattle.prove_top.specs.Report.{status_of, trace_of, text_of};
 ghost use Rattle.prove_top.specs.Answer.{report_of, names_asked};
-ghost use Rattle.prove_top.specs.Ends.{Ends, Ran, UnlessFailed};
+ghost use Rattle.prove_top.specs.Ends.{Ends, EndsPut, Ran, UnlessFailed};
 ghost use Rattle.prove_top.specs.Reads.{ReadsOnly};
 
 use crate::plan::plan;
@@ -28,15 +28,32 @@ pub struct Ended {
     pub evidence: Evidence,
 }
 
-/// Puts a report, and gives the status under which the command ends.
+/// Puts a report, its line first and then its trace, and gives the status under which the command
+/// ends.
 fn put_report<S: Sink>(alloc: Global, report: &Report, out: &mut S) -> Status
     ensures ends { Ends report.now (S.written out.old) (S.written out.new) (S.faults out.old) (S.faults out.new) result }
     ensures count { S.faults out.old ≤ S.faults out.new }
 {
-    let Ok(text) = report.text(alloc) else {
+    let Ok(heading) = report.heading(alloc) else {
         return want_memory(alloc, out);
     };
-    match out.put(alloc, &text) {
+    match out.put(alloc, &heading) {
+        Ok(()) => put_trace(alloc, report, out),
+        Err(SinkFault::Failed) => Status::Fault,
+        Err(SinkFault::NoMemory) => want_memory(alloc, out),
+    }
+}
+
+/// Puts the trace of a report, where it has one.
+fn put_trace<S: Sink>(alloc: Global, report: &Report, out: &mut S) -> Status
+    ensures ends { EndsPut (status_of report.now) (trace_of report.now) (S.written out.old) (S.written out.new) (S.faults out.old) (S.faults out.new) result }
+    ensures count { S.faults out.old ≤ S.faults out.new }
+{
+    let trace = report.trace();
+    if trace.is_empty() {
+        return report.status();
+    }
+    match out.put(alloc, trace) {
         Ok(()) => report.status(),
         Err(SinkFault::Failed) => Status::Fault,
         Err(SinkFault::NoMemory) => want_memory(alloc, out),
@@ -54,7 +71,12 @@ fn want_memory<S: Sink>(alloc: Global, out: &mut S) -> Status
 }
 
 /// Reads the words, fetches the files that they name from the depot, decides, and puts the report.
-pub fn run_tool<D: Depot, S: Sink>(alloc: Global, words: &[Text], depot: &mut D, out: &mut S) -> Ended
+pub fn run_tool<D: Depot, S: Sink>(
+    alloc: Global,
+    words: &[Text],
+    depot: &mut D,
+    out: &mut S,
+) -> Ended
     // Where the depot tells its files, status and text are those that the files give.
     ensures status { IfSome (D.files depot.old) (λ files. UnlessFailed result.status (result.status ≡ status_of (report_of files words.now))) }
     ensures text { IfSome (D.files depot.old) (λ files. UnlessFailed result.status (S.written out.new ≡ after_put (S.written out.old) (text_of (report_of files words.now)))) }
@@ -76,5 +98,8 @@ pub fn run_tool<D: Depot, S: Sink>(alloc: Global, words: &[Text], depot: &mut D,
         Ok(report) => put_report(alloc, &report, out),
         Err(_) => want_memory(alloc, out),
     };
-    Ended { status, evidence: Evidence::Nothing }
+    Ended {
+        status,
+        evidence: Evidence::Nothing,
+    }
 }

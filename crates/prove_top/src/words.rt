@@ -50,7 +50,10 @@ fn seed_of(alloc: Global, options: &[Text]) -> Result<Option<u64>, AllocError>
 {
     match options {
         [] => Ok(Some(1)),
-        [option, number] if option.as_bytes() == b"--seed".as_slice() => plain_number(alloc, number.as_bytes()),
+        [option, number] if option.as_bytes() == b"--seed".as_slice() => plain_number(
+            alloc,
+            number.as_bytes(),
+        ),
         _ => Ok(None),
     }
 }

@@ -27,7 +27,10 @@ impl Machine {
             BusEvent::Read(0) => u32::from(self.value),
             _ => 0,
         };
-        Answer { payload, error: false }
+        Answer {
+            payload,
+            error: false,
+        }
     }
 
     /// The state after this event.
@@ -35,7 +38,13 @@ impl Machine {
         ensures { result ≡ machine_step self event }
     {
         match event {
-            BusEvent::Write { address: 0, payload, strobe: _ } => Machine { value: (payload % 256) as u8 },
+            BusEvent::Write {
+                address: 0,
+                payload,
+                strobe: _,
+            } => Machine {
+                value: (payload % 256) as u8,
+            },
             _ => self,
         }
     }

@@ -12,17 +12,17 @@ returns-in_default c = sym (plain_value-none c.args.bytes.now (λ n small is. c.
 
 pub returns-in_default-parse : goal.returns-in_default-parse
 returns-in_default-parse c = sym (plain_value-none c.args.bytes.now
-  (λ n small is. c.in_default-parse.not-Ok n
+    (λ n small is. c.in_default-parse.not-Ok n
     (parse-decimal 64 n c.in-Ok.text.now c.parse.result small small (c.in-Ok.ensures.cases.0 ∙ is) c.parse.ensures.value.0)))
 
 pub returns-then-eq : goal.returns-then-eq
 returns-then-eq c =
-  sym (plain_value-decimal c.in-Ok-parse.number c.args.bytes.now (omega arith)
+    sym (plain_value-decimal c.in-Ok-parse.number c.args.bytes.now (omega arith)
     (sym ((bytes_eq-Decides _ _).0 (sym c.eq.ensures ∙ c.if-eq.true)) ∙ c.as_bytes.ensures.value ∙ c.in_ok-plain.ensures.ok))
 
 pub returns : goal.returns
 returns c = sym (plain_value-none c.args.bytes.now
-  (λ n small is.
+    (λ n small is.
     let parsed = parse-decimal 64 n c.in-Ok.text.now c.parse.result small small (c.in-Ok.ensures.cases.0 ∙ is) c.parse.ensures.value.0 in
     let same : c.in-Ok-parse.number ≡ n = cc in
     both_ways _ (sym c.eq.ensures ∙ c.if-eq.false) ((bytes_eq-Decides c.as_bytes.result.now c.args.bytes.now).1 (c.as_bytes.ensures.value ∙ c.in_ok-plain.ensures.ok ∙ ap decimal same ∙ sym is))))

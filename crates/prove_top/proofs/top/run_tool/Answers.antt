@@ -9,4 +9,4 @@ returns-in-Ok-clause-text g c = ends-text _ c.in-Ok.report c.args.words.now _ _ 
 
 pub returns-in-Err-clause-reads : goal.returns-in-Err-clause-reads
 returns-in-Err-clause-reads g c =
-  reads-wanting _ c.args.words.now _ _ _ _ _ _ _ _ c.in-Err.ensures.calls c.want_memory-status.ensures.status c.want_memory-status.ensures.written
+    reads-wanting _ c.args.words.now _ _ _ _ _ _ _ _ c.in-Err.ensures.calls c.want_memory-status.ensures.status c.want_memory-status.ensures.written

@@ -5,4 +5,4 @@ use Rattle.trace_replay.proofs.joint.first_difference.Given as goal
 -- no edge before this one has a difference
 abbrev pub invariant-loop-edge : goal.invariant-loop-edge
 invariant-loop-edge l =
-  first_from l.block l.state l.edge (drop l.edge l.run) ≡ first_difference l.block l.register l.run
+    first_from l.block l.state l.edge (drop l.edge l.run) ≡ first_difference l.block l.register l.run
