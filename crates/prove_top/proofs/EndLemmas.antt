@@ -1,5 +1,10 @@
 -- What is put, and what it says of the end of a command.
-use Rattle.std.proofs.Common.{◌≡◌, ℕ, List, [], ◌∷◌, ◌++◌, length, take, Option, Some, None, Result, Ok, Err, OnOk, OnErr, IfSome, ◌⊎◌, inl, inr, refl, sym, ap, subst, ◌∙◌, append-nil}
+use Rattle.std.proofs.Common.{◌≡◌, ℕ, zero, suc, List, [], ◌∷◌, ◌++◌, length, take, Option, Some, None, Result, Ok, Err, OnOk, OnErr, IfSome, ◌⊎◌, inl, inr, refl, sym, ap, subst, ◌∙◌, ◌+◌, ◌≤◌, ◌<◌, append-nil, append_assoc, arith}
+use Rattle.std.proofs.lemmas.Bool.{cases_lt}
+use Rattle.std.proofs.lemmas.List.{take-append-le}
+use Rattle.std.proofs.Math.Seq.{take-append_seam, take-append-add}
+use Rattle.tool_edge.proofs.Causes.{Rose-before}
+use Rattle.tool_edge.specs.Causes.{Rose}
 use Rattle.std.proofs.Math.Seq.{take-length}
 use Rattle.tool_edge.specs.Files.{Files}
 use Rattle.tool_edge.specs.Written.{after_put, AppendsPart}
@@ -16,7 +21,7 @@ use Rattle.prove_top.specs.declared.report.Status.TheVariants as status
 use Rattle.prove_top.specs.declared.report.TheConstants.{MEMORY_LINE}
 use Rattle.prove_top.specs.declared.words.Command.{Command}
 use Rattle.prove_top.specs.Answer.{IsAnswer, UnlessFault, TellsFailed, names_asked, report_of, command_report, command_answer, files_report, short_report, answer_to, block_report, block_of, run_report, difference_report, wanted_of}
-use Rattle.prove_top.specs.Ends.{Ends, Completes, FailsPut, WantsMemory, MayReport, Ran, UnlessFailed}
+use Rattle.prove_top.specs.Ends.{Ends, EndsPut, Completes, FailsPut, WantsMemory, MayReport, Ran, UnlessFailed}
 use Rattle.prove_top.specs.Gather.{gathered}
 use Rattle.prove_top.specs.Reads.{ReadsOnly, failed_of}
 use Rattle.prove_top.specs.Report.{status_of, text_of}
@@ -54,7 +59,7 @@ completes-unless : (report expected : Report) (ended : Status) (Q : Report → T
     → UnlessFault report (report ≡ expected) → ended ≡ status_of report → Q report → UnlessFailed ended (Q expected)
 completes-unless Usage expected ended Q is said q = unless-any ended (Q expected) (subst Q is q)
 completes-unless (Refused why file) expected ended Q is said q = unless-any ended (Q expected) (subst Q is q)
-completes-unless (Refuted edge what) expected ended Q is said q = unless-any ended (Q expected) (subst Q is q)
+completes-unless (Refuted edge what trace) expected ended Q is said q = unless-any ended (Q expected) (subst Q is q)
 completes-unless Simulated expected ended Q is said q = unless-any ended (Q expected) (subst Q is q)
 completes-unless (FaultRead file) expected ended Q is said q = unless-fault ended (Q expected) said
 
@@ -89,13 +94,13 @@ tells-short : (short : Shortfall) → TellsFailed (short_report short) None
 tells-short (Missing name) = refl
 tells-short (Long kind name) = refl
 
-tells-difference : (first : Option (ℕ × Difference)) → TellsFailed (difference_report first) None
-tells-difference None = refl
-tells-difference (Some first) = refl
+tells-difference : (block : Block) (seed : ℕ) (first : Option (ℕ × Difference)) → TellsFailed (difference_report block seed first) None
+tells-difference block seed None = refl
+tells-difference block seed (Some first) = refl
 
 tells-run : (block : Block) (seed : ℕ) → TellsFailed (run_report block seed) None
 unfolding run_report
-tells-run block seed = tells-difference (sampled block seed)
+tells-run block seed = tells-difference block seed (sampled block seed)
 
 tells-block : (command : Command) (block : Result Block Kind) → TellsFailed (block_report command block) None
 tells-block command (Ok block) = tells-run block command.seed
@@ -121,7 +126,7 @@ tells-report_of files (word ∷ words) = tells-command files (command_of (word �
 unless-tells : (report : Report) → TellsFailed report None → (P : Type 0) → P → UnlessFault report P
 unless-tells Usage tells P p = p
 unless-tells (Refused why file) tells P p = p
-unless-tells (Refuted edge what) tells P p = p
+unless-tells (Refuted edge what trace) tells P p = p
 unless-tells Simulated tells P p = p
 unless-tells (FaultRead file) tells P p = tt
 
@@ -155,3 +160,48 @@ reads-wanting told words calls_before calls_after P old new before now ended all
         ends = inr (inr (record { said = said; written = (old, put-none old (text_of may.0), part) }));
       };
     }
+
+-- a text of two parts, put one after the other
+take-over : (n : ℕ) (xs : List ℕ) → length xs < n → take n xs ≡ xs
+take-over zero xs over = absurd (omega arith)
+take-over (suc n) [] over = refl
+take-over (suc n) (x ∷ xs) over = ap (λ rest. x ∷ rest) (take-over n xs (omega arith))
+
+part-of-first : (old : Option (List ℕ)) (first second : List ℕ) (new : Option (List ℕ)) → AppendsPart old first new → AppendsPart old (first ++ second) new
+part-of-first old first second new part =
+    elim (cases_lt (length first) part.0) [
+      | inl over ↦ (length first, part.1 ∙ ap (after_put old) (take-over part.0 first over ∙ sym (take-append_seam first second)))
+      | inr under ↦ (part.0, part.1 ∙ ap (after_put old) (sym (take-append-le part.0 first second under)))
+    ]
+
+after_put-twice : (old : Option (List ℕ)) (first second : List ℕ) → after_put (after_put old first) second ≡ after_put old (first ++ second)
+after_put-twice None first second = refl
+after_put-twice (Some before) first second = ap Some (append_assoc before first second)
+
+part-of-second : (old middle : Option (List ℕ)) (first second : List ℕ) (new : Option (List ℕ)) → middle ≡ after_put old first → AppendsPart middle second new
+    → AppendsPart old (first ++ second) new
+part-of-second old middle first second new whole part = (
+  length first + part.0,
+  part.1 ∙ ap (λ m. after_put m (take part.0 second)) whole ∙ after_put-twice old first (take part.0 second)
+      ∙ ap (after_put old) (sym (take-append-add first second part.0)),
+)
+
+pub ends-second : (due : Status) (first second : List ℕ) (old middle new : Option (List ℕ)) (before between now : ℕ) (ended : Status)
+    → middle ≡ after_put old first → before ≤ between → between ≤ now → EndsPut due second middle new between now ended
+    → EndsPut due (first ++ second) old new before now ended
+ends-second due first second old middle new before between now ended whole early late (inl done) =
+    inl (record { said = done.said; written = done.written ∙ ap (λ m. after_put m second) whole ∙ after_put-twice old first second })
+ends-second due first second old middle new before between now ended whole early late (inr (inl fails)) =
+    inr (inl (record { said = fails.said; rose = Rose-before before between now early fails.rose; written = part-of-second old middle first second new whole fails.written }))
+ends-second due first second old middle new before between now ended whole early late (inr (inr wants)) =
+    inr (inr (record { said = wants.said; written = (wants.written.0, part-of-second old middle first second wants.written.0 whole wants.written.1, wants.written.2) }))
+
+pub ends-failed : (due : Status) (first second : List ℕ) (old new : Option (List ℕ)) (before now : ℕ) (ended : Status)
+    → ended ≡ status.Fault → Rose before now → AppendsPart old first new → EndsPut due (first ++ second) old new before now ended
+ends-failed due first second old new before now ended said rose part =
+    inr (inl (record { said = said; rose = rose; written = part-of-first old first second new part }))
+
+pub ends-wanting : (due : Status) (first second : List ℕ) (old middle new : Option (List ℕ)) (before now : ℕ) (ended : Status)
+    → ended ≡ status.NoMemory → AppendsPart old first middle → AppendsPart middle MEMORY_LINE.now new → EndsPut due (first ++ second) old new before now ended
+ends-wanting due first second old middle new before now ended said part last =
+    inr (inr (record { said = said; written = (middle, part-of-first old first second middle part, last) }))

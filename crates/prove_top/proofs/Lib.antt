@@ -3,4 +3,5 @@ mod Plain
 mod GatherLemmas
 mod DrawLemmas
 mod PlanLemmas
+mod ReadingLemmas
 mod EndLemmas

@@ -14,21 +14,21 @@ use Rattle.prove_top.specs.Words.{command_of}
 answer-usage : (report : Report) → IsAnswer report → IsUsage report → ⊥
 answer-usage Usage answer usage = answer
 answer-usage (Refused why file) answer usage = usage
-answer-usage (Refuted edge what) answer usage = usage
+answer-usage (Refuted edge what trace) answer usage = usage
 answer-usage Simulated answer usage = usage
 answer-usage (FaultRead file) answer usage = usage
 
 answer-tells : (report : Report) (failed : Option (List ℕ)) → IsAnswer report → failed ≡ None → TellsFailed report failed
 answer-tells Usage failed answer none = none
 answer-tells (Refused why file) failed answer none = none
-answer-tells (Refuted edge what) failed answer none = none
+answer-tells (Refuted edge what trace) failed answer none = none
 answer-tells Simulated failed answer none = none
 answer-tells (FaultRead file) failed answer none = absurd answer
 
 answer-rose : (report : Report) (P : Type 0) → IsAnswer report → IfFault report P
 answer-rose Usage P answer = tt
 answer-rose (Refused why file) P answer = tt
-answer-rose (Refuted edge what) P answer = tt
+answer-rose (Refuted edge what trace) P answer = tt
 answer-rose Simulated P answer = tt
 answer-rose (FaultRead file) P answer = absurd answer
 

@@ -18,7 +18,7 @@ use Rattle.prove_top.specs.declared.verilog.Drivers.{Drivers}
 use Rattle.prove_top.specs.declared.words.Command.{Command}
 use Rattle.prove_top.specs.Description.{reset_of}
 use Rattle.prove_top.specs.Gather.{gathered, names_of}
-use Rattle.prove_top.specs.Sampled.{sampled}
+use Rattle.prove_top.specs.Sampled.{sampled, sampled_trace}
 use Rattle.prove_top.specs.Verilog.{drivers_of}
 use Rattle.prove_top.specs.Words.{command_of}
 
@@ -54,13 +54,13 @@ block_with (Some reset) (Some drivers) true = Ok (record { reset = reset; read_d
 abbrev pub block_of : List ℕ → List ℕ → List ℕ → Result Block Kind
 block_of rdl ports verilog = block_with (reset_of rdl) (drivers_of verilog) (bytes_eq ports PORTS.now)
 
--- the report of the sampled run
-abbrev pub difference_report : Option (ℕ × Difference) → Report
-difference_report None = Simulated
-difference_report (Some first) = Refuted first.0 first.1
+-- the report of the sampled run: its first difference, and its trace, cut after that edge
+abbrev pub difference_report : Block → ℕ → Option (ℕ × Difference) → Report
+difference_report block seed None = Simulated
+difference_report block seed (Some first) = Refuted first.0 first.1 (sampled_trace block seed first.0)
 
 unfoldable pub run_report : Block → ℕ → Report
-run_report block seed = difference_report (sampled block seed)
+run_report block seed = difference_report block seed (sampled block seed)
 
 -- the report of a command on its three texts
 abbrev pub block_report : Command → Result Block Kind → Report
@@ -99,14 +99,14 @@ names_asked words = command_names (command_of words)
 abbrev pub IsUsage : Report → Type 0
 IsUsage Usage = ⊤
 IsUsage (Refused why file) = ⊥
-IsUsage (Refuted edge what) = ⊥
+IsUsage (Refuted edge what trace) = ⊥
 IsUsage Simulated = ⊥
 IsUsage (FaultRead file) = ⊥
 
 abbrev pub IsAnswer : Report → Type 0
 IsAnswer Usage = ⊥
 IsAnswer (Refused why file) = ⊤
-IsAnswer (Refuted edge what) = ⊤
+IsAnswer (Refuted edge what trace) = ⊤
 IsAnswer Simulated = ⊤
 IsAnswer (FaultRead file) = ⊥
 
@@ -114,14 +114,14 @@ abbrev pub IfFault : Report → Type 0 → Type 0
 IfFault (FaultRead file) P = P
 IfFault Usage P = ⊤
 IfFault (Refused why file) P = ⊤
-IfFault (Refuted edge what) P = ⊤
+IfFault (Refuted edge what trace) P = ⊤
 IfFault Simulated P = ⊤
 
 abbrev pub UnlessFault : Report → Type 0 → Type 0
 UnlessFault (FaultRead file) P = ⊤
 UnlessFault Usage P = P
 UnlessFault (Refused why file) P = P
-UnlessFault (Refuted edge what) P = P
+UnlessFault (Refuted edge what trace) P = P
 UnlessFault Simulated P = P
 
 -- a report names the read that failed, where one did
@@ -129,5 +129,5 @@ abbrev pub TellsFailed : Report → Option (List ℕ) → Type 0
 TellsFailed (FaultRead name) failed = failed ≡ Some name
 TellsFailed Usage failed = failed ≡ None
 TellsFailed (Refused why file) failed = failed ≡ None
-TellsFailed (Refuted edge what) failed = failed ≡ None
+TellsFailed (Refuted edge what trace) failed = failed ≡ None
 TellsFailed Simulated failed = failed ≡ None

@@ -12,25 +12,28 @@ use Rattle.prove_top.specs.Report.{status_of, text_of}
 use Rattle.prove_top.specs.Answer.{report_of, UnlessFault, TellsFailed}
 use Rattle.prove_top.specs.Reads.{failed_of}
 
--- the report is put
-pub record Completes (report : Report) (old new : Option (List ℕ)) (ended : Status) : Type 0 where
-  pub said : ended ≡ status_of report
-  pub written : new ≡ after_put old (text_of report)
+-- the text is put, and the command ends as is due
+pub record Completes (due : Status) (text : List ℕ) (old new : Option (List ℕ)) (ended : Status) : Type 0 where
+  pub said : ended ≡ due
+  pub written : new ≡ after_put old text
 
--- a put of it failed, with its cause: a part of it is put
-pub record FailsPut (report : Report) (old new : Option (List ℕ)) (before now : ℕ) (ended : Status) : Type 0 where
+-- a put failed, with its cause: a part of the text is put
+pub record FailsPut (text : List ℕ) (old new : Option (List ℕ)) (before now : ℕ) (ended : Status) : Type 0 where
   pub said : ended ≡ status.Fault
   pub rose : Rose before now
-  pub written : AppendsPart old (text_of report) new
+  pub written : AppendsPart old text new
 
--- memory is wanted: a part of it is put, then a part of the line that says so
-pub record WantsMemory (report : Report) (old new : Option (List ℕ)) (ended : Status) : Type 0 where
+-- memory is wanted: a part of the text is put, then a part of the line that says so
+pub record WantsMemory (text : List ℕ) (old new : Option (List ℕ)) (ended : Status) : Type 0 where
   pub said : ended ≡ status.NoMemory
-  pub written : (middle : Option (List ℕ)) × AppendsPart old (text_of report) middle × AppendsPart middle MEMORY_LINE.now new
+  pub written : (middle : Option (List ℕ)) × AppendsPart old text middle × AppendsPart middle MEMORY_LINE.now new
+
+abbrev pub EndsPut : Status → List ℕ → Option (List ℕ) → Option (List ℕ) → ℕ → ℕ → Status → Type 0
+EndsPut due text old new before now ended =
+    Completes due text old new ended ⊎ FailsPut text old new before now ended ⊎ WantsMemory text old new ended
 
 abbrev pub Ends : Report → Option (List ℕ) → Option (List ℕ) → ℕ → ℕ → Status → Type 0
-Ends report old new before now ended =
-    Completes report old new ended ⊎ FailsPut report old new before now ended ⊎ WantsMemory report old new ended
+Ends report old new before now ended = EndsPut (status_of report) (text_of report) old new before now ended
 
 -- a report that the command may give: about the read that failed, else the one that the told files give
 pub record MayReport (told : Option Files) (words : List (List ℕ)) (failed : Option (List ℕ)) (report : Report) : Type 0 where

@@ -6,6 +6,8 @@ pub mod Words
 pub mod Draws
 pub mod Sampled
 pub mod Description
+pub mod Spelling
+pub mod Reading
 pub mod Verilog
 pub mod Report
 pub mod Answer

@@ -24,7 +24,7 @@ status_number status.NoMemory = 6
 abbrev pub status_of : Report → Status
 status_of report.Usage = status.Usage
 status_of (report.Refused why file) = status.Refused
-status_of (report.Refuted edge what) = status.No
+status_of (report.Refuted edge what trace) = status.No
 status_of report.Simulated = status.Unknown
 status_of (report.FaultRead file) = status.Fault
 
@@ -57,9 +57,20 @@ refuted_line edge what = codes "refuted edge=" ++ decimal edge ++ difference_tex
 abbrev pub line_of : Report → List ℕ
 line_of report.Usage = codes "usage: rdlprove prove, check, replay, map, sample or equal"
 line_of (report.Refused why file) = refusal_head why ++ file ++ refusal_tail why
-line_of (report.Refuted edge what) = refuted_line edge what
+line_of (report.Refuted edge what trace) = refuted_line edge what
 line_of report.Simulated = codes "unknown simulated"
 line_of (report.FaultRead file) = codes "fault read " ++ file ++ []
 
+abbrev pub heading_of : Report → List ℕ
+heading_of said = line_of said ++ 10 ∷ []
+
+-- the trace text that follows the line, where there is one
+abbrev pub trace_of : Report → List ℕ
+trace_of report.Usage = []
+trace_of (report.Refused why file) = []
+trace_of (report.Refuted edge what trace) = trace
+trace_of report.Simulated = []
+trace_of (report.FaultRead file) = []
+
 unfoldable pub text_of : Report → List ℕ
-text_of said = line_of said ++ 10 ∷ []
+text_of said = heading_of said ++ trace_of said

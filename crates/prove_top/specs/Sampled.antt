@@ -2,12 +2,14 @@
 -- register; then each edge has one bit for PSEL's start, PENABLE and PWRITE, two of PADDR and eight of
 -- PWDATA, each least first.
 use Rattle.std.specs.Prelude.{◌≡◌, ℕ, zero, suc, ◌+◌, ◌*◌, Bool, false, Option, List, [], ◌∷◌, ◌++◌, take, slice_index_or}
-use Rattle.bit_base.specs.Numbers.{number_of, sliced}
+use Rattle.bit_base.specs.Numbers.{number_of, sliced, low_bits}
 use Rattle.apb_rules.specs.declared.wires.BusWires.{BusWires}
 use Rattle.apb_rules.specs.declared.wires.Choice.{Choice}
 use Rattle.trace_replay.specs.declared.block.Block.{Block}
 use Rattle.trace_replay.specs.declared.joint.Difference.{Difference}
 use Rattle.trace_replay.specs.Joint.{start_of, wires_from, first_difference}
+use Rattle.trace_replay.specs.Trace.{edges_from}
+use Rattle.trace_replay.specs.TraceText.{trace_text}
 use Rattle.prove_top.specs.Draws.{drawn_bits}
 use Rattle.prove_top.specs.declared.sampled.Run.{Run}
 use Rattle.prove_top.specs.declared.sampled.TheConstants.{EDGES, REGISTER_BITS, CHOICE_BITS}
@@ -50,3 +52,10 @@ pub record IsSampled (block : Block) (seed : ℕ) (run : Run) : Type 0 where
 -- its first difference
 abbrev pub sampled : Block → ℕ → Option (ℕ × Difference)
 sampled block seed = first_difference block (sampled_register seed) (sampled_wires block seed)
+
+-- the text of the trace of a run, and that of the sampled run up to this edge
+abbrev pub cut_trace : Block → ℕ → List BusWires → List ℕ
+cut_trace block register run = trace_text (low_bits 8 register) (edges_from block (start_of block register) run)
+
+unfoldable pub sampled_trace : Block → ℕ → ℕ → List ℕ
+sampled_trace block seed edge = cut_trace block (sampled_register seed) (take (edge + 1) (sampled_wires block seed))

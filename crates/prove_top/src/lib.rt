@@ -1,8 +1,10 @@
 //! The top call: it reads the words, fetches the files, decides, and puts the report.
 #![tactic(auto)]
 
+mod cursor;
 mod description;
 mod draws;
+mod expressions;
 mod gather;
 mod numbers;
 mod plan;

@@ -1,6 +1,7 @@
 //! What a command comes to, before it is reported.
 
-ghost use Rattle.std.specs.Prelude.{◌≡◌, ◌≤◌, ◌↔◌, [], length, slice_index_or, IfOk, IfSome};
+ghost use Rattle.std.specs.Prelude.{◌≡◌, ◌+◌, ◌<◌, ◌≤◌, ◌↔◌, [], length, take, IfOk, IfSome};
+ghost use Rattle.prove_top.specs.Sampled.{cut_trace};
 ghost use Rattle.tool_edge.specs.Causes.{Rose};
 ghost use Rattle.prove_top.specs.Words.{command_of};
 ghost use Rattle.prove_top.specs.Gather.{names_of};
@@ -10,15 +11,18 @@ ghost use Rattle.prove_top.specs.Answer.{wanted_of, short_report, name_of, block
 use crate::description::reset_of;
 use crate::gather::{Halt, Kind, Shortfall, Wanted, fetch_all};
 use crate::report::{Refusal, Report};
-use crate::sampled::sampled_run;
+use crate::sampled::{Run, sampled_run};
 use crate::verilog::drivers_of;
 use crate::words::{Command, command_of};
 use bit_base::text::{Text, text_of};
 use std::alloc::{AllocError, Global};
+use std::convert::From;
 use std::vec::Vec;
 use tool_edge::depot::Depot;
 use trace_replay::block::Block;
 use trace_replay::joint::first_difference;
+use trace_replay::text::trace_text;
+use trace_replay::trace::trace_of_run;
 
 /// How many bytes a description, a ports file and a Verilog file may have.
 pub(crate) const DESCRIPTION_LIMIT: u32 = 1_048_576;
@@ -93,7 +97,7 @@ fn block_of(
     let Some(reset) = reset_of(alloc, rdl)? else {
         return Ok(Err(Kind::Description));
     };
-    let Some(drivers) = drivers_of(verilog) else {
+    let Some(drivers) = drivers_of(alloc, verilog)? else {
         return Ok(Err(Kind::Verilog));
     };
     if ports != PORTS {
@@ -106,15 +110,28 @@ fn block_of(
     }))
 }
 
+/// The text of the trace of a run, up to this edge.
+fn cut_trace(alloc: Global, block: &Block, run: &Run, edge: usize) -> Result<Text, AllocError>
+    requires { edge < length run.now.wires.items }
+    ensures { IfOk result (λ text. text ≡ cut_trace block.now run.now.register (take (edge + 1) run.now.wires.items)) }
+{
+    let trace = trace_of_run(alloc, block, run.register, &run.wires[..edge + 1])?;
+    let text = trace_text(alloc, &trace)?;
+    Ok(Text::from(text))
+}
+
 /// The report of a block's sampled run.
-#[tactic(auto, unfolding(crate::specs::Answer::run_report))]
-fn run_report(alloc: Global, block: Block, seed: u64) -> Result<Report, AllocError>
-    ensures report { IfOk result (λ report. report ≡ run_report block seed) }
+#[tactic(auto, unfolding(crate::specs::Answer::run_report, crate::specs::Sampled::sampled_trace))]
+fn run_report(alloc: Global, block: &Block, seed: u64) -> Result<Report, AllocError>
+    ensures report { IfOk result (λ report. report ≡ run_report block.now seed) }
     ensures kind { IfOk result IsAnswer }
 {
     let run = sampled_run(alloc, block, seed)?;
     match first_difference(block, run.register, &run.wires) {
-        Some((edge, difference)) => Ok(Report::Refuted(edge, difference)),
+        Some((edge, difference)) => {
+            let trace = cut_trace(alloc, block, &run, edge)?;
+            Ok(Report::Refuted(edge, difference, trace))
+        }
         None => Ok(Report::Simulated),
     }
 }
@@ -132,7 +149,7 @@ fn answer_to(
     ensures kind { IfOk result IsAnswer }
 {
     match block_of(alloc, rdl, ports, verilog)? {
-        Ok(block) => run_report(alloc, block, command.seed),
+        Ok(block) => run_report(alloc, &block, command.seed),
         Err(kind) => Ok(Report::Refused(Refusal::NotYet, name_of(command, kind).copy(alloc)?)),
     }
 }

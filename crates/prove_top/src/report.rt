@@ -1,7 +1,7 @@
 //! What a command reports: a status, and a line.
 
 ghost use Rattle.std.specs.Prelude.{◌≡◌, ◌++◌, IfOk};
-ghost use Rattle.prove_top.specs.Report.{status_number, status_of, text_of, line_of, refusal_head, refusal_tail, difference_text, refuted_line};
+ghost use Rattle.prove_top.specs.Report.{status_number, status_of, heading_of, trace_of, line_of, refusal_head, refusal_tail, difference_text, refuted_line};
 
 use bit_base::text::Text;
 use std::alloc::{AllocError, Global};
@@ -48,12 +48,12 @@ pub(crate) enum Refusal {
     NotYet,
 }
 
-/// What a command reports.
+/// What a command reports; `Refuted` has the edge, the difference and the text of the trace.
 #[derive(Drop)]
 pub(crate) enum Report {
     Usage,
     Refused(Refusal, Text),
-    Refuted(usize, Difference),
+    Refuted(usize, Difference, Text),
     Simulated,
     FaultRead(Text),
 }
@@ -66,20 +66,29 @@ impl Report {
         match self {
             Report::Usage => Status::Usage,
             Report::Refused(_, _) => Status::Refused,
-            Report::Refuted(_, _) => Status::No,
+            Report::Refuted(_, _, _) => Status::No,
             Report::Simulated => Status::Unknown,
             Report::FaultRead(_) => Status::Fault,
         }
     }
 
-    /// Its text: its line and a line feed.
-    #[tactic(auto, unfolding(crate::specs::Report::text_of))]
-    pub fn text(&self, alloc: Global) -> Result<Vec<u8>, AllocError>
-        ensures { IfOk result (λ text. text.items ≡ text_of self.now) }
+    /// Its line and a line feed.
+    pub fn heading(&self, alloc: Global) -> Result<Vec<u8>, AllocError>
+        ensures { IfOk result (λ text. text.items ≡ heading_of self.now) }
     {
         let mut text = self.line(alloc)?;
         text.push(b'\n')?;
         Ok(text)
+    }
+
+    /// The trace text that follows, empty where there is none.
+    pub fn trace(&self) -> &[u8]
+        ensures { result.now ≡ trace_of self.now }
+    {
+        match self {
+            Report::Refuted(_, _, trace) => trace.as_bytes(),
+            _ => b"".as_slice(),
+        }
     }
 
     /// Its line.
@@ -96,7 +105,7 @@ impl Report {
                 file.as_bytes(),
                 refusal_tail(*refusal),
             ),
-            Report::Refuted(edge, difference) => refuted_line(alloc, *edge, *difference),
+            Report::Refuted(edge, difference, _) => refuted_line(alloc, *edge, *difference),
             Report::Simulated => b"unknown simulated".as_slice().to_vec(alloc),
             Report::FaultRead(file) => joined(
                 alloc,

@@ -68,8 +68,8 @@ fn choices(alloc: Global, bits: &[bool]) -> Result<Vec<Choice>, AllocError>
 
 /// The sampled run of a block under this seed.
 #[tactic(auto, unfolding(crate::specs::Sampled::sample_bits, crate::specs::Sampled::sampled_register, crate::specs::Sampled::sampled_wires))]
-pub(crate) fn sampled_run(alloc: Global, block: Block, seed: u64) -> Result<Run, AllocError>
-    ensures { IfOk result (IsSampled block seed) }
+pub(crate) fn sampled_run(alloc: Global, block: &Block, seed: u64) -> Result<Run, AllocError>
+    ensures { IfOk result (IsSampled block.now seed) }
 {
     let bits = drawn_bits(alloc, seed, REGISTER_BITS + CHOICE_BITS * EDGES)?;
     let register = number_of_places(&bits[..REGISTER_BITS]) as u8;

@@ -19,6 +19,14 @@ const MIDDLE: &[u8] = b";\n  always @(posedge clk) v <= ";
 
 const TAIL: &[u8] = b";\nendmodule\n";
 
+/// The two expressions of a right block.
+const READ_DATA: &str = "(v & (~{8{paddr[0]}} & ~{8{paddr[1]}}))";
+
+const NEXT: &str =
+    "({8{rst_n}} & (v ^ (({8{psel}} & ({8{penable}} & ({8{pwrite}} & (~{8{paddr[0]}} & ~{8{paddr[1]}})))) & (v ^ pwdata))))";
+
+const COMMAND: &[u8] = b"prove a.rdl a.ports f.v";
+
 /// The Verilog with these two expressions.
 fn verilog(alloc: Global, read_data: &[u8], next: &[u8]) -> Result<Vec<u8>, AllocError> {
     let mut text = HEAD.to_vec(alloc)?;
@@ -52,7 +60,7 @@ fn words(alloc: Global, line: &[u8]) -> Result<Vec<Text>, AllocError> {
     Ok(words)
 }
 
-/// Runs this command line, and looks at the status and at what is put.
+/// Runs this command line, and looks at the status and at how what is put begins.
 fn answers(
     rt: &impl Abort,
     alloc: Global,
@@ -60,13 +68,13 @@ fn answers(
     depot: &mut MemoryDepot,
     status: Status,
     text: &[u8],
-) -> Result<(), AllocError> {
+) -> Result<Vec<u8>, AllocError> {
     let mut out = MemorySink::new(alloc);
     let words = words(alloc, line)?;
     let ended = run_tool(alloc, &words, depot, &mut out);
     assert_eq!(rt; ended.status, status);
-    assert_eq!(rt; out.bytes(), text);
-    Ok(())
+    assert!(rt; out.bytes().starts_with(text));
+    out.bytes().to_vec(alloc)
 }
 
 /// A block whose PRDATA is PWDATA and whose register is always 0, under twenty seeds. The expected
@@ -76,9 +84,9 @@ fn answers(
 fn each_seed_shows_its_first_difference(rt: HostRuntime) -> Result<(), Fail> {
     let alloc = rt.alloc();
     for (seed, line) in [
-        ("0", "refuted edge=3 readdata\n"),
-        ("1", "refuted edge=6 output c.v\n"),
-        ("2", "refuted edge=17 readdata\n"),
+        ("0", "refuted edge=3 readdata\nrdltrace 1\n"),
+        ("1", "refuted edge=6 output c.v\nrdltrace 1\n"),
+        ("2", "refuted edge=17 readdata\nrdltrace 1\n"),
         ("3", "refuted edge=3 readdata\n"),
         ("4", "refuted edge=3 readdata\n"),
         ("5", "refuted edge=11 output c.v\n"),
@@ -107,6 +115,41 @@ fn each_seed_shows_its_first_difference(rt: HostRuntime) -> Result<(), Fail> {
             Status::No,
             line.as_bytes(),
         )?;
+    }
+    Ok(())
+}
+
+/// A right block has no difference, and one that takes a wrong value at the reset edge shows it at
+/// edge 1, in a trace of five lines, under each of fifty seeds.
+#[test]
+fn right_and_wrong_blocks_are_told_apart(rt: HostRuntime) -> Result<(), Fail> {
+    let alloc = rt.alloc();
+    let wrong = format!(in alloc; "({NEXT} | (~{{8{{rst_n}}}} & 8'h01))")?;
+    for seed in 0..50u8 {
+        let words = format!(in alloc; "prove a.rdl a.ports f.v --seed {seed}")?;
+        let mut depot = depot(alloc, READ_DATA.as_bytes(), NEXT.as_bytes())?;
+        let text = answers(
+            &rt,
+            alloc,
+            words.as_bytes(),
+            &mut depot,
+            Status::Unknown,
+            b"unknown simulated\n".as_slice(),
+        )?;
+        assert_eq!(rt; text.len(), 18);
+        let mut depot = self::depot(alloc, READ_DATA.as_bytes(), wrong.as_bytes())?;
+        let text = answers(
+            &rt,
+            alloc,
+            words.as_bytes(),
+            &mut depot,
+            Status::No,
+            b"refuted edge=1 output c.v\nrdltrace 1\nstart v ".as_slice(),
+        )?;
+        assert_eq!(rt; text.iter().filter(|byte| **byte == b'\n').count(), 6);
+        assert!(rt; text.ends_with(b"\nend\n".as_slice()));
+        assert!(rt; text.len() > 54);
+        assert!(rt; text[53..].starts_with(b"\nedge rst_n=0 psel=0 penable=".as_slice()));
     }
     Ok(())
 }
@@ -173,7 +216,7 @@ fn each_row_has_its_answer(rt: HostRuntime) -> Result<(), Fail> {
     answers(
         &rt,
         alloc,
-        b"prove a.rdl a.ports f.v".as_slice(),
+        COMMAND,
         &mut failing,
         Status::Fault,
         b"fault read a.ports\n".as_slice(),
@@ -181,10 +224,84 @@ fn each_row_has_its_answer(rt: HostRuntime) -> Result<(), Fail> {
     let mut depot = depot(alloc, b"v".as_slice(), b"v".as_slice())?;
     let mut out = MemorySink::new(alloc);
     out.fail_at(1)?;
-    let words = words(alloc, b"prove a.rdl a.ports f.v".as_slice())?;
+    let words = words(alloc, COMMAND)?;
     let ended = run_tool(alloc, &words, &mut depot, &mut out);
     assert_eq!(rt; ended.status, Status::Fault);
     assert_eq!(rt; ended.status.number(), 5);
     assert!(rt; out.bytes().is_empty());
+    Ok(())
+}
+
+/// The sum of two texts and five bytes: the two, combined.
+fn pair(alloc: Global, left: &[u8], right: &[u8]) -> Result<Vec<u8>, AllocError> {
+    let mut text = b"(".as_slice().to_vec(alloc)?;
+    text.extend_from_slice(left)?;
+    text.extend_from_slice(b" & ".as_slice())?;
+    text.extend_from_slice(right)?;
+    text.extend_from_slice(b")".as_slice())?;
+    Ok(text)
+}
+
+/// So many inverses of the register.
+fn inverses(alloc: Global, count: u8) -> Result<Vec<u8>, AllocError> {
+    let mut text = Vec::new(alloc);
+    for _turn in 0..count {
+        text.push(b'~')?;
+    }
+    text.push(b'v')?;
+    Ok(text)
+}
+
+/// An expression of 1,896 bytes and so many inverses more.
+fn long_text(alloc: Global, count: u8) -> Result<Vec<u8>, AllocError> {
+    let mut sizes = Vec::new(alloc);
+    let mut text = b"v".as_slice().to_vec(alloc)?;
+    for _turn in 0..8u8 {
+        let next = pair(alloc, &text, &text)?;
+        sizes.push(text)?;
+        text = next;
+    }
+    let mut last = inverses(alloc, count)?;
+    for size in &sizes {
+        if size.len() == 19 || size.len() == 43 || size.len() == 91 || size.len() == 187 {
+            last = pair(alloc, size, &last)?;
+        }
+    }
+    pair(alloc, &text, &last)
+}
+
+/// Sixty inverses and 1,900 bytes are read, sixty-one and 1,901 aren't; and each byte of a right block,
+/// changed in its lowest bit, is refused, but for the four places (told by a parser in another
+/// language) at which another wire is named.
+#[test]
+fn first_form_is_exact(rt: HostRuntime) -> Result<(), Fail> {
+    let alloc = rt.alloc();
+    for (next, read) in [
+        (inverses(alloc, 60)?, true),
+        (inverses(alloc, 61)?, false),
+        (long_text(alloc, 3)?, true),
+        (long_text(alloc, 4)?, false),
+    ] {
+        let mut depot = depot(alloc, b"v".as_slice(), &next)?;
+        let status = if read { Status::No } else { Status::Refused };
+        answers(&rt, alloc, COMMAND, &mut depot, status, b"ref".as_slice())?;
+    }
+    assert_eq!(rt; long_text(alloc, 3)?.len(), 1_900);
+    let right = verilog(alloc, READ_DATA.as_bytes(), NEXT.as_bytes())?;
+    for place in 0..right.len() {
+        let mut changed = right.as_slice().to_vec(alloc)?;
+        if let Some(byte) = changed.get_mut(place) {
+            *byte ^= 1;
+        }
+        let mut depot = MemoryDepot::new(alloc);
+        depot.hold(text_of(alloc, b"a.rdl".as_slice())?, RDL.to_vec(alloc)?)?;
+        depot.hold(text_of(alloc, b"a.ports".as_slice())?, PORTS.to_vec(alloc)?)?;
+        depot.hold(text_of(alloc, b"f.v".as_slice())?, changed)?;
+        let mut out = MemorySink::new(alloc);
+        let words = words(alloc, COMMAND)?;
+        let ended = run_tool(alloc, &words, &mut depot, &mut out);
+        let other = place == 273 || place == 290 || place == 402 || place == 419;
+        assert_eq!(rt; ended.status != Status::Refused, other);
+    }
     Ok(())
 }

@@ -3,9 +3,9 @@
 ghost use Rattle.std.specs.Prelude.{◌≡◌, ◌≤◌, ◌↔◌, ◌⊎◌, [], IfOk, IfSome};
 ghost use Rattle.tool_edge.specs.Causes.{Rose};
 ghost use Rattle.tool_edge.specs.Written.{after_put, AppendsPart};
-ghost use Rattle.prove_top.specs.Report.{status_of, text_of};
+ghost use Rattle.prove_top.specs.Report.{status_of, trace_of, text_of};
 ghost use Rattle.prove_top.specs.Answer.{report_of, names_asked};
-ghost use Rattle.prove_top.specs.Ends.{Ends, Ran, UnlessFailed};
+ghost use Rattle.prove_top.specs.Ends.{Ends, EndsPut, Ran, UnlessFailed};
 ghost use Rattle.prove_top.specs.Reads.{ReadsOnly};
 
 use crate::plan::plan;
@@ -28,15 +28,32 @@ pub struct Ended {
     pub evidence: Evidence,
 }
 
-/// Puts a report, and gives the status under which the command ends.
+/// Puts a report, its line first and then its trace, and gives the status under which the command
+/// ends.
 fn put_report<S: Sink>(alloc: Global, report: &Report, out: &mut S) -> Status
     ensures ends { Ends report.now (S.written out.old) (S.written out.new) (S.faults out.old) (S.faults out.new) result }
     ensures count { S.faults out.old ≤ S.faults out.new }
 {
-    let Ok(text) = report.text(alloc) else {
+    let Ok(heading) = report.heading(alloc) else {
         return want_memory(alloc, out);
     };
-    match out.put(alloc, &text) {
+    match out.put(alloc, &heading) {
+        Ok(()) => put_trace(alloc, report, out),
+        Err(SinkFault::Failed) => Status::Fault,
+        Err(SinkFault::NoMemory) => want_memory(alloc, out),
+    }
+}
+
+/// Puts the trace of a report, where it has one.
+fn put_trace<S: Sink>(alloc: Global, report: &Report, out: &mut S) -> Status
+    ensures ends { EndsPut (status_of report.now) (trace_of report.now) (S.written out.old) (S.written out.new) (S.faults out.old) (S.faults out.new) result }
+    ensures count { S.faults out.old ≤ S.faults out.new }
+{
+    let trace = report.trace();
+    if trace.is_empty() {
+        return report.status();
+    }
+    match out.put(alloc, trace) {
         Ok(()) => report.status(),
         Err(SinkFault::Failed) => Status::Fault,
         Err(SinkFault::NoMemory) => want_memory(alloc, out),

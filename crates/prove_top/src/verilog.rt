@@ -1,11 +1,14 @@
 //! The Verilog of the first form: one flat module, whose PRDATA and whose register are each driven by
 //! one expression.
 
-ghost use Rattle.std.specs.Prelude.{◌≡◌, ◌<◌, IfSome};
-ghost use Rattle.prove_top.specs.Verilog.{digit_of, literal_of, source_of, drivers_in, drivers_of};
+ghost use Rattle.std.specs.Prelude.{◌≡◌, IfOk};
+ghost use Rattle.prove_top.specs.Reading.{Reads};
+ghost use Rattle.prove_top.specs.Verilog.{drivers_at, drivers_of};
 
-use crate::texts::{front, middle};
-use trace_replay::source::Source;
+use crate::cursor::{Cursor, Stop};
+use crate::expressions::limited;
+use std::alloc::{AllocError, Global};
+use trace_replay::expression::Expression;
 
 /// The texts before, between and after the two expressions.
 pub(crate) const VERILOG_HEAD: &[u8] =
@@ -16,74 +19,34 @@ pub(crate) const VERILOG_MIDDLE: &[u8] = b";\n  always @(posedge clk) v <= ";
 pub(crate) const VERILOG_TAIL: &[u8] = b";\nendmodule\n";
 
 /// What drives PRDATA, and what the register takes at each rising edge.
-#[derive(Clone, Copy)]
+#[derive(Drop)]
 pub(crate) struct Drivers {
-    pub read_data: Source,
-    pub next: Source,
+    pub read_data: Expression,
+    pub next: Expression,
 }
 
-/// The value of a hexadecimal digit.
-fn digit_of(byte: u8) -> Option<u8>
-    ensures value { result ≡ digit_of byte }
-    ensures small { IfSome result (λ value. value < 16) }
+/// The drivers of a Verilog text, from its front.
+#[tactic(auto, unfolding(crate::specs::Verilog::drivers_at))]
+fn read_drivers(alloc: Global, cursor: &mut Cursor<'_>) -> Result<Drivers, Stop>
+    ensures { Reads (drivers_at cursor.old) result cursor.new }
 {
-    match byte {
-        b'0'..=b'9' => Some(byte - b'0'),
-        b'A'..=b'F' => Some(byte - b'A' + 10),
-        b'a'..=b'f' => Some(byte - b'a' + 10),
-        _ => None,
-    }
-}
-
-/// The constant of two hexadecimal digits.
-fn literal_of(digits: &[u8]) -> Option<Source>
-    ensures { result ≡ literal_of digits.now }
-{
-    let [high, low] = digits else {
-        return None;
-    };
-    match (digit_of(*high), digit_of(*low)) {
-        (Some(high), Some(low)) => Some(Source::Constant(16 * high + low)),
-        _ => None,
-    }
-}
-
-/// The expression of this text.
-#[tactic(auto, unfolding(crate::specs::Verilog::source_of))]
-fn source_of(bytes: &[u8]) -> Option<Source>
-    ensures { result ≡ source_of bytes.now }
-{
-    if bytes == b"v".as_slice() {
-        return Some(Source::Register);
-    }
-    if bytes == b"pwdata".as_slice() {
-        return Some(Source::WriteData);
-    }
-    match middle(bytes, b"8'h".as_slice(), b"".as_slice()) {
-        Some(digits) => literal_of(digits),
-        None => None,
-    }
-}
-
-/// The drivers between the fixed texts.
-fn drivers_in(inner: &[u8]) -> Option<Drivers>
-    ensures { result ≡ drivers_in inner.now }
-{
-    let first = front(inner, b';');
-    let rest = middle(inner, first, b"".as_slice())?;
-    let second = middle(rest, VERILOG_MIDDLE, b"".as_slice())?;
-    let read_data = source_of(first)?;
-    let next = source_of(second)?;
-    Some(Drivers { read_data, next })
+    cursor.expect(VERILOG_HEAD)?;
+    let read_data = limited(alloc, cursor)?;
+    cursor.expect(VERILOG_MIDDLE)?;
+    let next = limited(alloc, cursor)?;
+    cursor.expect(VERILOG_TAIL)?;
+    Ok(Drivers { read_data, next })
 }
 
 /// The drivers of this Verilog text, where it is of the first form.
 #[tactic(auto, unfolding(crate::specs::Verilog::drivers_of))]
-pub(crate) fn drivers_of(bytes: &[u8]) -> Option<Drivers>
-    ensures { result ≡ drivers_of bytes.now }
+pub(crate) fn drivers_of(alloc: Global, bytes: &[u8]) -> Result<Option<Drivers>, AllocError>
+    ensures { IfOk result (λ drivers. drivers ≡ drivers_of bytes.now) }
 {
-    match middle(bytes, VERILOG_HEAD, VERILOG_TAIL) {
-        Some(inner) => drivers_in(inner),
-        None => None,
+    let mut cursor = Cursor::new(bytes);
+    match read_drivers(alloc, &mut cursor) {
+        Ok(drivers) if cursor.rest().is_empty() => Ok(Some(drivers)),
+        Err(Stop::NoMemory) => Err(AllocError),
+        _ => Ok(None),
     }
 }

@@ -1,0 +1,2 @@
+mod ExpressionLemmas
+mod TraceLemmas

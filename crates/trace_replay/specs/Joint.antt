@@ -19,9 +19,9 @@ use Rattle.trace_replay.specs.declared.joint.Difference.{Difference}
 use Rattle.trace_replay.specs.declared.joint.Difference.TheVariants.{Wait, Error, ReadData, Output}
 use Rattle.trace_replay.specs.declared.machine.Machine.{Machine}
 use Rattle.trace_replay.specs.declared.machine.Answer.{Answer}
-use Rattle.trace_replay.specs.declared.source.Pins.{Pins}
+use Rattle.trace_replay.specs.declared.pins.Pins.{Pins}
 use Rattle.trace_replay.specs.Machine.{machine_answer, machine_step}
-use Rattle.trace_replay.specs.Source.{source_value}
+use Rattle.trace_replay.specs.Expression.{expression_value}
 
 -- before the first edge: the block's register holds any number, the machine its reset value
 abbrev pub start_of : Block → ℕ → JointState
@@ -51,7 +51,7 @@ abbrev pub outputs_at : Block → Pins → ℕ → Outputs
 outputs_at block pins register = record {
   ready = true;
   error = false;
-  read_data = source_value block.read_data pins register;
+  read_data = expression_value block.read_data pins register;
   value = register;
 }
 
@@ -75,7 +75,7 @@ waited_after state wires shown = if is_waiting wires shown then min (state.waite
 abbrev pub state_after : Block → JointState → BusWires → JointState
 state_after block state wires = record {
   edge = min (state.edge + 1) RESET_EDGES;
-  register = source_value block.next (pins_of state wires) state.register;
+  register = expression_value block.next (pins_of state wires) state.register;
   machine = if in_reset state then state.machine else machine_step state.machine (event_at block state wires);
   phase = if in_reset state then Free else phase_after state.phase wires (shown_at block state wires).ready;
   waited = waited_after state wires (shown_at block state wires);

@@ -1,3 +1,5 @@
-pub mod Source
+pub mod Expression
 pub mod Machine
 pub mod Joint
+pub mod Trace
+pub mod TraceText

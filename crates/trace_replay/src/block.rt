@@ -3,17 +3,18 @@
 ghost use Rattle.std.specs.Prelude.{◌≡◌};
 ghost use Rattle.trace_replay.specs.Joint.{outputs_at};
 
-use crate::source::{Pins, Source};
+use crate::expression::Expression;
+use crate::pins::Pins;
 
 /// A block and the register that it is held against: `reset` is the reset value of the
 /// description's one field of eight bits, at address 0; `read_data` drives PRDATA; `next` is what
 /// the block's register takes at each rising edge. PREADY is 1 and PSLVERR is 0 at every edge, no
 /// transfer may wait, and an address without a register reads as 0.
-#[derive(Clone, Copy)]
+#[derive(Drop)]
 pub struct Block {
     pub reset: u8,
-    pub read_data: Source,
-    pub next: Source,
+    pub read_data: Expression,
+    pub next: Expression,
 }
 
 /// What the block shows at an edge: PREADY, PSLVERR, PRDATA and its register.
@@ -26,8 +27,8 @@ pub struct Outputs {
 }
 
 /// What the block shows at these pins, where its register holds `register`.
-pub fn shown(block: Block, pins: Pins, register: u8) -> Outputs
-    ensures { result ≡ outputs_at block pins register }
+pub fn shown(block: &Block, pins: Pins, register: u8) -> Outputs
+    ensures { result ≡ outputs_at block.now pins register }
 {
     Outputs {
         ready: true,

@@ -1,11 +1,11 @@
 //! The joint run: block and register machine side by side under one legal master.
 
-ghost use Rattle.std.specs.Prelude.{◌≡◌, IfOk};
+ghost use Rattle.std.specs.Prelude.{◌≡◌, ◌<◌, length, IfOk, IfSome};
 ghost use Rattle.trace_replay.specs.Joint.{start_of, in_reset, wires_of, pins_of, shown_at, state_after, is_waiting, wrong_error, wrong_data, difference_at, waited_after, wires_from, first_difference};
 
 use crate::block::{Block, Outputs, shown};
 use crate::machine::{Answer, Machine};
-use crate::source::Pins;
+use crate::pins::Pins;
 use apb_rules::drive::drive;
 use apb_rules::event::{BusEvent, event_of};
 use apb_rules::phase::{Phase, next_phase};
@@ -43,8 +43,8 @@ pub enum Difference {
 }
 
 /// The state before the first edge, where the block's register holds `register`.
-pub fn start(block: Block, register: u8) -> JointState
-    ensures { result ≡ start_of block register }
+pub fn start(block: &Block, register: u8) -> JointState
+    ensures { result ≡ start_of block.now register }
 {
     JointState {
         edge: 0,
@@ -86,7 +86,7 @@ impl JointState {
     }
 
     /// The pins of the block under these wires.
-    fn pins(self, wires: BusWires) -> Pins
+    pub fn pins(self, wires: BusWires) -> Pins
         ensures { result ≡ pins_of self wires }
     {
         Pins {
@@ -96,15 +96,15 @@ impl JointState {
     }
 
     /// What the block shows under these wires.
-    fn shown(self, block: Block, wires: BusWires) -> Outputs
-        ensures { result ≡ shown_at block self wires }
+    fn shown(self, block: &Block, wires: BusWires) -> Outputs
+        ensures { result ≡ shown_at block.now self wires }
     {
         shown(block, self.pins(wires), self.register)
     }
 
     /// The difference of the edge with these wires, the first of the four that holds.
-    pub fn difference(self, block: Block, wires: BusWires) -> Option<Difference>
-        ensures { result ≡ difference_at block self wires }
+    pub fn difference(self, block: &Block, wires: BusWires) -> Option<Difference>
+        ensures { result ≡ difference_at block.now self wires }
     {
         if self.in_reset() {
             return None;
@@ -128,8 +128,8 @@ impl JointState {
     }
 
     /// The state after the edge with these wires.
-    pub fn after(self, block: Block, wires: BusWires) -> JointState
-        ensures { result ≡ state_after block self wires }
+    pub fn after(self, block: &Block, wires: BusWires) -> JointState
+        ensures { result ≡ state_after block.now self wires }
     {
         let pins = self.pins(wires);
         let shown = self.shown(block, wires);
@@ -197,11 +197,11 @@ fn wrong_data(event: BusEvent, answer: Answer, shown: Outputs) -> bool
 /// The wires of the run under these choices, from this state on.
 pub fn run_wires(
     alloc: Global,
-    block: Block,
+    block: &Block,
     start: JointState,
     choices: &[Choice],
 ) -> Result<Vec<BusWires>, AllocError>
-    ensures { IfOk result (λ wires. wires.items ≡ wires_from block start choices.now) }
+    ensures { IfOk result (λ wires. wires.items ≡ wires_from block.now start choices.now) }
 {
     let mut state = start;
     let mut run = Vec::with_capacity(alloc, choices.len())?;
@@ -215,8 +215,13 @@ pub fn run_wires(
 
 /// The first edge with a difference of the run under these wires, where the block's register
 /// starts with `register`, and that difference.
-pub fn first_difference(block: Block, register: u8, run: &[BusWires]) -> Option<(usize, Difference)>
-    ensures { result ≡ first_difference block register run.now }
+pub fn first_difference(
+    block: &Block,
+    register: u8,
+    run: &[BusWires],
+) -> Option<(usize, Difference)>
+    ensures first { result ≡ first_difference block.now register run.now }
+    ensures inside { IfSome result (λ found. found.0 < length run.now) }
 {
     let mut state = start(block, register);
     for (edge, wires) in run.iter().enumerate() {

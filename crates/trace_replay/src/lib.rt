@@ -3,6 +3,9 @@
 #![tactic(auto)]
 
 pub mod block;
+pub mod expression;
 pub mod joint;
 pub mod machine;
-pub mod source;
+pub mod pins;
+pub mod text;
+pub mod trace;
