@@ -205,3 +205,17 @@ pub ends-wanting : (due : Status) (first second : List ℕ) (old middle new : Op
     → ended ≡ status.NoMemory → AppendsPart old first middle → AppendsPart middle MEMORY_LINE.now new → EndsPut due (first ++ second) old new before now ended
 ends-wanting due first second old middle new before now ended said part last =
     inr (inr (record { said = said; written = (middle, part-of-first old first second middle part, last) }))
+
+-- a whole text that is put is a part of it
+pub part-whole : (old : Option (List ℕ)) (text : List ℕ) (new : Option (List ℕ)) → new ≡ after_put old text → AppendsPart old text new
+part-whole old text new whole = (length text, whole ∙ ap (after_put old) (sym (take-length text)))
+
+-- a fact that follows, under the same guard
+pub unless-map : (ended : Status) (P Q : Type 0) → (P → Q) → UnlessFailed ended P → UnlessFailed ended Q
+unless-map status.Yes P Q f p = f p
+unless-map status.No P Q f p = f p
+unless-map status.Unknown P Q f p = f p
+unless-map status.Refused P Q f p = f p
+unless-map status.Usage P Q f p = f p
+unless-map status.Fault P Q f p = tt
+unless-map status.NoMemory P Q f p = tt

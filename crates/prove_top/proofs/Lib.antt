@@ -3,5 +3,10 @@ mod Plain
 mod GatherLemmas
 mod DrawLemmas
 mod PlanLemmas
+mod SpellingLemmas
+mod CompleteLemmas
+mod SoundLemmas
+mod VerilogLemmas
 mod ReadingLemmas
 mod EndLemmas
+mod ClauseLemmas

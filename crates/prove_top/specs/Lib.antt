@@ -12,3 +12,5 @@ pub mod Verilog
 pub mod Report
 pub mod Answer
 pub mod Ends
+pub mod Laws
+pub mod Clauses

@@ -6,6 +6,7 @@ mod description;
 mod draws;
 mod expressions;
 mod gather;
+pub mod laws;
 mod numbers;
 mod plan;
 mod report;

@@ -1,15 +1,21 @@
 //! The top call.
 
-ghost use Rattle.std.specs.Prelude.{◌≡◌, ◌≤◌, ◌↔◌, ◌⊎◌, [], IfOk, IfSome};
+ghost use Rattle.std.specs.Prelude.{◌≡◌, ◌≢◌, ◌≤◌, ◌↔◌, ◌⊎◌, ℕ, List, [], Some, None, Ok, Err, IfSome, slice_index_or, codes};
 ghost use Rattle.tool_edge.specs.Causes.{Rose};
 ghost use Rattle.tool_edge.specs.Written.{after_put, AppendsPart};
-ghost use Rattle.prove_top.specs.Report.{status_of, trace_of, text_of};
-ghost use Rattle.prove_top.specs.Answer.{report_of, names_asked};
+ghost use Rattle.prove_top.specs.Answer.{block_of, name_of, names_asked, report_of, short_report, wanted_of};
+ghost use Rattle.prove_top.specs.Clauses.{Added, IsFaultOrMemory, NoStores, PutsFault, PutsPart, PutsPartThenMemory, SampledAgrees, SampledDiffers, WholeButTheLast, asked_block};
 ghost use Rattle.prove_top.specs.Ends.{Ends, EndsPut, Ran, UnlessFailed};
-ghost use Rattle.prove_top.specs.Reads.{ReadsOnly};
+ghost use Rattle.prove_top.specs.Gather.{gathered};
+ghost use Rattle.prove_top.specs.Reads.{AreReads, ReadsOnly, failed_of};
+ghost use Rattle.prove_top.specs.Report.{status_of, trace_of, text_of};
+ghost use Rattle.prove_top.specs.Words.{command_of};
+ghost use Rattle.prove_top.specs.declared.gather.Kind.{Kind};
+ghost use Rattle.prove_top.specs.declared.gather.Shortfall.{Shortfall};
+ghost use Rattle.prove_top.specs.declared.words.Command.{Command};
 
 use crate::plan::plan;
-use crate::report::{MEMORY_LINE, Report, Status};
+use crate::report::{MEMORY_LINE, Refusal, Report, Status};
 use bit_base::text::Text;
 use std::alloc::Global;
 use tool_edge::depot::Depot;
@@ -70,6 +76,23 @@ fn want_memory<S: Sink>(alloc: Global, out: &mut S) -> Status
     Status::NoMemory
 }
 
+/// The top call, with what its end says of the report that was due.
+fn run<D: Depot, S: Sink>(alloc: Global, words: &[Text], depot: &mut D, out: &mut S) -> Status
+    ensures status { IfSome (D.files depot.old) (λ files. UnlessFailed result (result ≡ status_of (report_of files words.now))) }
+    ensures text { IfSome (D.files depot.old) (λ files. UnlessFailed result (S.written out.new ≡ after_put (S.written out.old) (text_of (report_of files words.now)))) }
+    ensures usage { UnlessFailed result ((result ≡ Status.Usage) ↔ (words.now ≡ [])) }
+    ensures fault { result ≡ Status.Fault → Rose (D.faults depot.old) (D.faults depot.new) ⊎ Rose (S.faults out.old) (S.faults out.new) }
+    ensures reads { ReadsOnly (names_asked words.now) (D.calls depot.old) (D.calls depot.new) (Ran (D.files depot.old) words.now (S.written out.old) (S.written out.new) (S.faults out.old) (S.faults out.new) result) }
+    ensures files { D.files depot.new ≡ D.files depot.old }
+    ensures depot_count { D.faults depot.old ≤ D.faults depot.new }
+    ensures sink_count { S.faults out.old ≤ S.faults out.new }
+{
+    match plan(alloc, words, depot) {
+        Ok(report) => put_report(alloc, &report, out),
+        Err(_) => want_memory(alloc, out),
+    }
+}
+
 /// Reads the words, fetches the files that they name from the depot, decides, and puts the report.
 pub fn run_tool<D: Depot, S: Sink>(
     alloc: Global,
@@ -77,27 +100,45 @@ pub fn run_tool<D: Depot, S: Sink>(
     depot: &mut D,
     out: &mut S,
 ) -> Ended
-    // Where the depot tells its files, status and text are those that the files give.
-    ensures status { IfSome (D.files depot.old) (λ files. UnlessFailed result.status (result.status ≡ status_of (report_of files words.now))) }
-    ensures text { IfSome (D.files depot.old) (λ files. UnlessFailed result.status (S.written out.new ≡ after_put (S.written out.old) (text_of (report_of files words.now)))) }
+    // The added calls are reads of the names of the words in their order, each once, none skipped, none
+    // after one that isn't whole; there is no store, and no file changes.
+    ensures reads_in_order { Added (D.calls depot.old) (D.calls depot.new) (AreReads (names_asked words.now)) }
+    ensures reads_stop { Added (D.calls depot.old) (D.calls depot.new) WholeButTheLast }
+    ensures no_stores { Added (D.calls depot.old) (D.calls depot.new) NoStores }
+    ensures files_kept { D.files depot.new ≡ D.files depot.old }
 
-    // Words alone decide the usage line.
-    ensures usage { UnlessFailed result.status ((result.status ≡ Status.Usage) ↔ (words.now ≡ [])) }
+    // Where the last added call failed.
+    ensures last_failed_is_fault { Added (D.calls depot.old) (D.calls depot.new) (λ added. (name : List ℕ) → failed_of added ≡ Some name → IsFaultOrMemory result.status) }
+    ensures fault_report { Added (D.calls depot.old) (D.calls depot.new) (λ added. (name : List ℕ) → failed_of added ≡ Some name → result.status ≡ Status.Fault → PutsFault name (S.written out.old) (S.written out.new) (S.faults out.old) (S.faults out.new)) }
+    ensures fault_without_failed_call { Added (D.calls depot.old) (D.calls depot.new) (λ added. failed_of added ≡ None → result.status ≡ Status.Fault → Rose (S.faults out.old) (S.faults out.new)) }
 
-    // A fault has a cause.
-    ensures fault { result.status ≡ Status.Fault → Rose (D.faults depot.old) (D.faults depot.new) ⊎ Rose (S.faults out.old) (S.faults out.new) }
+    // Status 5 has a cause, and under 5 and 6 a part of a report that the command may give is put.
+    ensures fault_cause { result.status ≡ Status.Fault → Rose (D.faults depot.old) (D.faults depot.new) ⊎ Rose (S.faults out.old) (S.faults out.new) }
+    ensures report_prefix { Added (D.calls depot.old) (D.calls depot.new) (λ added. result.status ≡ Status.Fault → PutsPart (D.files depot.old) words.now (failed_of added) (S.written out.old) (S.written out.new)) }
+    ensures no_memory_bytes { Added (D.calls depot.old) (D.calls depot.new) (λ added. result.status ≡ Status.NoMemory → PutsPartThenMemory (D.files depot.old) words.now (failed_of added) (S.written out.old) (S.written out.new)) }
 
-    // The calls are the reads of the names in order, and the report is about the one that failed.
-    ensures reads { ReadsOnly (names_asked words.now) (D.calls depot.old) (D.calls depot.new) (Ran (D.files depot.old) words.now (S.written out.old) (S.written out.new) (S.faults out.old) (S.faults out.new) result.status) }
-    ensures files { D.files depot.new ≡ D.files depot.old }
+    // Under every other status, where the depot tells its files, the bytes put are exactly the report
+    // that words and files give: the line, and under status 1 the trace.
+    ensures report_put { IfSome (D.files depot.old) (λ files. UnlessFailed result.status (S.written out.new ≡ after_put (S.written out.old) (text_of (report_of files words.now)))) }
+
+    // When each of these statuses comes.
+    ensures usage_iff { UnlessFailed result.status ((result.status ≡ Status.Usage) ↔ (words.now ≡ [])) }
+    ensures refused_iff { IfSome (D.files depot.old) (λ files. UnlessFailed result.status ((result.status ≡ Status.Refused) ↔ ((words.now ≢ []) × (asked_block files words.now ≡ None)))) }
+    ensures refuted_sampled_iff { IfSome (D.files depot.old) (λ files. UnlessFailed result.status ((result.status ≡ Status.No) ↔ SampledDiffers files words.now)) }
+    ensures simulated_iff { IfSome (D.files depot.old) (λ files. UnlessFailed result.status ((result.status ≡ Status.Unknown) ↔ SampledAgrees files words.now)) }
+
+    // The refusals: a file that isn't there or is too long, words that aren't a command, and a file
+    // that isn't of the first form.
+    ensures no_file_and_long_file { IfSome (D.files depot.old) (λ files. (command : Command) (short : Shortfall) → command_of words.now ≡ Some command → gathered files (wanted_of command) ≡ Err short → UnlessFailed result.status (S.written out.new ≡ after_put (S.written out.old) (text_of (short_report short)))) }
+    ensures not_yet_words { IfSome (D.files depot.old) (λ files. words.now ≢ [] → command_of words.now ≡ None → UnlessFailed result.status (S.written out.new ≡ after_put (S.written out.old) (text_of (Report.Refused Refusal.NotYet (codes "words"))))) }
+    ensures not_yet_file { IfSome (D.files depot.old) (λ files. (command : Command) (texts : List (List ℕ)) (kind : Kind) → command_of words.now ≡ Some command → gathered files (wanted_of command) ≡ Ok texts → block_of (slice_index_or texts 0 []) (slice_index_or texts 1 []) (slice_index_or texts 2 []) ≡ Err kind → UnlessFailed result.status (S.written out.new ≡ after_put (S.written out.old) (text_of (Report.Refused Refusal.NotYet (name_of command kind))))) }
+
+    // Nothing is kept beside the status, and neither count falls.
     ensures evidence { result.evidence ≡ Evidence.Nothing }
     ensures depot_count { D.faults depot.old ≤ D.faults depot.new }
     ensures sink_count { S.faults out.old ≤ S.faults out.new }
 {
-    let status = match plan(alloc, words, depot) {
-        Ok(report) => put_report(alloc, &report, out),
-        Err(_) => want_memory(alloc, out),
-    };
+    let status = run(alloc, words, depot, out);
     Ended {
         status,
         evidence: Evidence::Nothing,

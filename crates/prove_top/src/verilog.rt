@@ -26,7 +26,7 @@ pub(crate) struct Drivers {
 }
 
 /// The drivers of a Verilog text, from its front.
-#[tactic(auto, unfolding(crate::specs::Verilog::drivers_at))]
+#[tactic(auto, unfolding(crate::specs::Verilog::drivers_at, crate::specs::Verilog::two_at))]
 fn read_drivers(alloc: Global, cursor: &mut Cursor<'_>) -> Result<Drivers, Stop>
     ensures { Reads (drivers_at cursor.old) result cursor.new }
 {

@@ -1,12 +1,45 @@
-use Rattle.prove_top.proofs.EndLemmas.{ends-status, ends-text, reads-wanting}
+use Rattle.prove_top.specs.declared.report.Status.TheVariants as status
+use Rattle.prove_top.proofs.ClauseLemmas.{added-by, added-reads, reads-stop, reads-stores, last_failed, fault_report, fault_without, report_prefix, no_memory_bytes, status-iff, differs-status, agrees-status, refused-status, short-put, words-put, form-put}
 use Rattle.prove_top.proofs.top.run_tool.Goals as goal
 
-pub returns-in-Ok-clause-status : goal.returns-in-Ok-clause-status
-returns-in-Ok-clause-status g c = ends-status _ c.in-Ok.report c.args.words.now _ _ _ _ _ c.in-Ok.ensures.answer c.put_report-status.ensures.ends
+pub returns-clause-reads_in_order : goal.returns-clause-reads_in_order
+returns-clause-reads_in_order g c = added-reads _ _ _ _ c.run-status.ensures.reads
 
-pub returns-in-Ok-clause-text : goal.returns-in-Ok-clause-text
-returns-in-Ok-clause-text g c = ends-text _ c.in-Ok.report c.args.words.now _ _ _ _ _ c.in-Ok.ensures.answer c.put_report-status.ensures.ends
+pub returns-clause-reads_stop : goal.returns-clause-reads_stop
+returns-clause-reads_stop g c = added-by _ _ _ _ _ (λ calls reads ran. reads-stop _ calls reads) c.run-status.ensures.reads
 
-pub returns-in-Err-clause-reads : goal.returns-in-Err-clause-reads
-returns-in-Err-clause-reads g c =
-    reads-wanting _ c.args.words.now _ _ _ _ _ _ _ _ c.in-Err.ensures.calls c.want_memory-status.ensures.status c.want_memory-status.ensures.written
+pub returns-clause-no_stores : goal.returns-clause-no_stores
+returns-clause-no_stores g c = added-by _ _ _ _ _ (λ calls reads ran. reads-stores _ calls reads) c.run-status.ensures.reads
+
+pub returns-clause-last_failed_is_fault : goal.returns-clause-last_failed_is_fault
+returns-clause-last_failed_is_fault g c = added-by _ _ _ _ _ (λ calls reads ran. last_failed _ _ _ _ _ _ _ calls ran) c.run-status.ensures.reads
+
+pub returns-clause-fault_report : goal.returns-clause-fault_report
+returns-clause-fault_report g c = added-by _ _ _ _ _ (λ calls reads ran. fault_report _ _ _ _ _ _ _ calls ran) c.run-status.ensures.reads
+
+pub returns-clause-fault_without_failed_call : goal.returns-clause-fault_without_failed_call
+returns-clause-fault_without_failed_call g c = added-by _ _ _ _ _ (λ calls reads ran. fault_without _ _ _ _ _ _ _ calls ran) c.run-status.ensures.reads
+
+pub returns-clause-report_prefix : goal.returns-clause-report_prefix
+returns-clause-report_prefix g c = added-by _ _ _ _ _ (λ calls reads ran. report_prefix _ _ _ _ _ _ _ calls ran) c.run-status.ensures.reads
+
+pub returns-clause-no_memory_bytes : goal.returns-clause-no_memory_bytes
+returns-clause-no_memory_bytes g c = added-by _ _ _ _ _ (λ calls reads ran. no_memory_bytes _ _ _ _ _ _ _ calls ran) c.run-status.ensures.reads
+
+pub returns-clause-refused_iff : goal.returns-clause-refused_iff
+returns-clause-refused_iff g c = status-iff _ _ status.Refused c.args.words.now _ (λ files. refused-status files c.args.words.now) c.run-status.ensures.status
+
+pub returns-clause-refuted_sampled_iff : goal.returns-clause-refuted_sampled_iff
+returns-clause-refuted_sampled_iff g c = status-iff _ _ status.No c.args.words.now _ (λ files. differs-status files c.args.words.now) c.run-status.ensures.status
+
+pub returns-clause-simulated_iff : goal.returns-clause-simulated_iff
+returns-clause-simulated_iff g c = status-iff _ _ status.Unknown c.args.words.now _ (λ files. agrees-status files c.args.words.now) c.run-status.ensures.status
+
+pub returns-clause-no_file_and_long_file : goal.returns-clause-no_file_and_long_file
+returns-clause-no_file_and_long_file g c = short-put _ _ c.args.words.now _ _ c.run-status.ensures.text
+
+pub returns-clause-not_yet_words : goal.returns-clause-not_yet_words
+returns-clause-not_yet_words g c = words-put _ _ c.args.words.now _ _ c.run-status.ensures.text
+
+pub returns-clause-not_yet_file : goal.returns-clause-not_yet_file
+returns-clause-not_yet_file g c = form-put _ _ c.args.words.now _ _ c.run-status.ensures.text

@@ -1,0 +1,84 @@
+-- The words of the top call's clauses.
+use Rattle.std.specs.Prelude.{◌≡◌, ◌≢◌, ◌↔◌, ℕ, Bool, false, Option, Some, None, Result, Ok, Err, List, [], ◌∷◌, slice_index_or, ◌⊎◌, ⊤, IsSome, IsSomeAnd}
+use Rattle.tool_edge.specs.Causes.{Rose}
+use Rattle.tool_edge.specs.Files.{Files}
+use Rattle.tool_edge.specs.Calls.{after_calls}
+use Rattle.tool_edge.specs.Written.{after_put, AppendsPart}
+use Rattle.tool_edge.specs.declared.depot.DepotCall.{DepotCall}
+use Rattle.tool_edge.specs.declared.depot.DepotAnswer.TheVariants as answered
+use Rattle.trace_replay.specs.declared.block.Block.{Block}
+use Rattle.prove_top.specs.declared.gather.Kind.{Kind}
+use Rattle.prove_top.specs.declared.gather.Shortfall.{Shortfall}
+use Rattle.prove_top.specs.declared.report.Report.{Report}
+use Rattle.prove_top.specs.declared.report.Report.TheVariants.{FaultRead}
+use Rattle.prove_top.specs.declared.report.Status.{Status}
+use Rattle.prove_top.specs.declared.report.Status.TheVariants as status
+use Rattle.prove_top.specs.declared.report.TheConstants.{MEMORY_LINE}
+use Rattle.prove_top.specs.declared.words.Command.{Command}
+use Rattle.prove_top.specs.Answer.{block_of, wanted_of}
+use Rattle.prove_top.specs.Ends.{MayReport}
+use Rattle.prove_top.specs.Gather.{gathered}
+use Rattle.prove_top.specs.Reads.{failed_of}
+use Rattle.prove_top.specs.Report.{text_of}
+use Rattle.prove_top.specs.Sampled.{sampled}
+use Rattle.prove_top.specs.Words.{command_of}
+
+-- what was added to a told list of calls, of which P holds
+pub record Added (before after : Option (List DepotCall)) (P : List DepotCall → Type 0) : Type 0 where
+  pub added : List DepotCall
+  pub told : after ≡ after_calls before added
+  pub holds : P added
+
+-- each call but the last was whole
+abbrev pub WholeButTheLast : List DepotCall → Type 0
+WholeButTheLast [] = ⊤
+WholeButTheLast (call ∷ []) = ⊤
+WholeButTheLast (call ∷ next ∷ calls) = (call.answer ≡ answered.Whole) × WholeButTheLast (next ∷ calls)
+
+-- no call is a store
+abbrev pub NoStores : List DepotCall → Type 0
+NoStores [] = ⊤
+NoStores (call ∷ calls) = (call.store ≡ false) × NoStores calls
+
+abbrev pub IsFaultOrMemory : Status → Type 0
+IsFaultOrMemory ended = (ended ≡ status.Fault) ⊎ (ended ≡ status.NoMemory)
+
+-- a part of a report that the command may give is put
+pub record PutsPart (told : Option Files) (words : List (List ℕ)) (failed : Option (List ℕ)) (old new : Option (List ℕ)) : Type 0 where
+  pub report : Report
+  pub may : MayReport told words failed report
+  pub part : AppendsPart old (text_of report) new
+
+-- the line of a failed read is put, or a part of it after a put that failed
+abbrev pub PutsFault : List ℕ → Option (List ℕ) → Option (List ℕ) → ℕ → ℕ → Type 0
+PutsFault name old new before now =
+    (new ≡ after_put old (text_of (FaultRead name))) ⊎ (Rose before now × AppendsPart old (text_of (FaultRead name)) new)
+
+-- a part of a report that the command may give is put, then a part of the line of want of memory
+pub record PutsPartThenMemory (told : Option Files) (words : List (List ℕ)) (failed : Option (List ℕ)) (old new : Option (List ℕ)) : Type 0 where
+  pub middle : Option (List ℕ)
+  pub first : PutsPart told words failed old middle
+  pub last : AppendsPart middle MEMORY_LINE.now new
+
+-- the block and the seed that words and told files give, where nothing refuses them
+abbrev pub with_block : ℕ → Result Block Kind → Option (Block × ℕ)
+with_block seed (Ok block) = Some (block, seed)
+with_block seed (Err kind) = None
+
+abbrev pub texts_block : Command → Result (List (List ℕ)) Shortfall → Option (Block × ℕ)
+texts_block command (Ok texts) = with_block command.seed (block_of (slice_index_or texts 0 []) (slice_index_or texts 1 []) (slice_index_or texts 2 []))
+texts_block command (Err short) = None
+
+abbrev pub command_block : Files → Option Command → Option (Block × ℕ)
+command_block files None = None
+command_block files (Some command) = texts_block command (gathered files (wanted_of command))
+
+abbrev pub asked_block : Files → List (List ℕ) → Option (Block × ℕ)
+asked_block files words = command_block files (command_of words)
+
+-- their sampled run has a difference, or has none
+abbrev pub SampledDiffers : Files → List (List ℕ) → Type 0
+SampledDiffers files words = IsSomeAnd (asked_block files words) (λ asked. IsSome (sampled asked.0 asked.1))
+
+abbrev pub SampledAgrees : Files → List (List ℕ) → Type 0
+SampledAgrees files words = IsSomeAnd (asked_block files words) (λ asked. sampled asked.0 asked.1 ≡ None)
