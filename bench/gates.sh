@@ -14,7 +14,7 @@ cp -r "$here/gates" "$work/crates/gates_bench"
 find "$work/crates/gates_bench" -name '*.txt' | while read -r text; do mv "$text" "${text%.txt}"; done
 printf 'gate_graph:\ngates_bench: gate_graph\n' > "$work/crates.txt"
 (cd "$work/crates/gates_bench" && rt run --jobs 1 > "$work/first.txt")
-program="$(find "$work/crates/gates_bench/out" -type f -perm -u+x -name 'gates_bench*' | head -n 1)"
+program="$(find "$work/crates/gates_bench/out" -maxdepth 1 -type f -perm -u+x -name 'gates_bench*' | head -n 1)"
 cc -O2 -march=x86-64-v2 -o "$work/gates_c" "$here/gates/gates.c"
 
 # user seconds of the fastest of three runs

@@ -14,7 +14,7 @@ cp -r "$here/lemma_checker" "$work/crates/chains_bench"
 find "$work/crates/chains_bench" -name '*.txt' | while read -r text; do mv "$text" "${text%.txt}"; done
 printf 'lemma_checker: thiserror\nchains_bench: lemma_checker\n' > "$work/crates.txt"
 (cd "$work/crates/chains_bench" && rt run --jobs 1 > "$work/first.txt")
-program="$(find "$work/crates/chains_bench/out" -type f -perm -u+x -name 'chains_bench*' | head -n 1)"
+program="$(find "$work/crates/chains_bench/out" -maxdepth 1 -type f -perm -u+x -name 'chains_bench*' | head -n 1)"
 cc -O2 -march=x86-64-v2 -o "$work/chains_c" "$here/lemma_checker/chains.c"
 
 # user seconds of the fastest of three runs
