@@ -1,0 +1,5 @@
+//! Trails of literals, and unit propagation over clauses.
+#![tactic(auto)]
+
+pub mod scan;
+pub mod trail;
