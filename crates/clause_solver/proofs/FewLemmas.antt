@@ -1,19 +1,19 @@
 -- New clauses are few: each has a number of its own below 3^n, and not 0.
-use Rattle.std.proofs.Common.{◌≡◌, ◌≢◌, ℕ, zero, suc, ◌+◌, ◌-◌, ◌*◌, ◌/◌, ◌^◌, ◌<◌, ◌≤◌, ◌⊎◌, Bool, true, false, not, ◌||◌, eqb, List, [], ◌∷◌, ◌++◌, length, take, map, get_or, Option, Some, None, slice_get, refl, ap, ◌∙◌, sym, subst, inl, inr, arith, true≢false, eq-eqb, add-one}
+use Rattle.std.proofs.Common.{◌≡◌, ℕ, zero, suc, ◌+◌, ◌*◌, ◌/◌, ◌^◌, ◌<◌, ◌≤◌, Bool, true, false, eqb, List, [], ◌∷◌, ◌++◌, length, take, map, get_or, Some, slice_get, refl, ap, ◌∙◌, sym, subst, inl, inr, arith, true≢false, add-one}
 use Rattle.std.specs.List.{list_any, IsDistinct}
-use Rattle.std.proofs.lemmas.Option.{slice_get_within, slice_get-get_or}
-use Rattle.std.proofs.lemmas.Bool.{cases_eq, cases_lt, cases_order, cases_Bool, or_cases, eqb-true, ne_eqb, false_from_ne_true}
-use Rattle.std.proofs.lemmas.List.{take_all, take_more, length_push, map_push, length-map}
+use Rattle.std.proofs.lemmas.Option.{slice_get-get_or}
+use Rattle.std.proofs.lemmas.Bool.{cases_eq, or_cases, eqb-true, false_from_ne_true}
+use Rattle.std.proofs.lemmas.List.{take_all, take_more, map_push, length-map}
 use Rattle.std.proofs.lemmas.Map.Steps.{length-le_from_distinct_below}
 use Rattle.std.proofs.lemmas.Map.Keys.{IsDistinct-push}
 use Rattle.std.proofs.lemmas.Cmp.{nat_eq_equiv}
 use Rattle.lemma_checker.specs.declared.literal.Literal.{Literal}
 use Rattle.lemma_checker.specs.Clauses.{has, IsOver, AreOver}
 use Rattle.lemma_checker.specs.Propagation.{IsNew, AreNew}
-use Rattle.lemma_checker.proofs.ListLemmas.{get_right, get_kept, get_push}
+use Rattle.lemma_checker.proofs.ListLemmas.{get_right}
 use Rattle.lemma_checker.proofs.LawProofs.{new_contains_none, new_has_no_variable_twice}
 use Rattle.lemma_checker.proofs.Semantics.{of_variable}
-use Rattle.watch_lists.proofs.Lists.{get_take, get_front}
+use Rattle.watch_lists.proofs.Lists.{get_front}
 
 pub digit : Bool → Bool → ℕ
 digit true b = 1

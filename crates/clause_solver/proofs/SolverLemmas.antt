@@ -1,14 +1,13 @@
 -- The solver's turns over plain lists.
-use Rattle.std.proofs.Common.{◌≡◌, ◌≢◌, ℕ, zero, suc, ◌+◌, ◌-◌, ◌*◌, ◌/◌, ◌<◌, ◌≤◌, ◌⊎◌, Bool, true, false, not, ◌||◌, ◌==◌, eqb, List, [], ◌∷◌, ◌++◌, length, take, set, replicate, get_or, Option, Some, None, slice_get, refl, ap, ◌∙◌, sym, subst, inl, inr, arith, true≢false, eq-eqb, append_assoc}
-use Rattle.std.specs.List.{list_any}
+use Rattle.std.proofs.Common.{◌≡◌, ℕ, ◌+◌, ◌-◌, ◌*◌, ◌/◌, ◌<◌, ◌≤◌, ◌⊎◌, Bool, true, false, ◌==◌, eqb, List, [], ◌∷◌, ◌++◌, length, take, set, replicate, Some, slice_get, refl, ap, ◌∙◌, sym, subst, inl, inr, arith, true≢false, eq-eqb, append_assoc}
 use Rattle.std.proofs.lemmas.Option.{slice_get_within}
-use Rattle.std.proofs.lemmas.Bool.{cases_eq, cases_Bool, or_left, or_right, false_from_ne_true, not-false}
+use Rattle.std.proofs.lemmas.Bool.{cases_Bool, or_left, or_right, false_from_ne_true, not-false}
 use Rattle.std.proofs.lemmas.List.{length-replicate}
 use Rattle.std.proofs.lemmas.List.Folds.{list_any-append}
 use Rattle.lemma_checker.specs.declared.literal.Literal.{Literal}
-use Rattle.lemma_checker.specs.Clauses.{opposite, has, set_of, at, assigned, literal_true, clause_true, Solves, IsOver, AreOver, AreDistinct}
+use Rattle.lemma_checker.specs.Clauses.{opposite, has, set_of, at, assigned, literal_true, clause_true, Solves, IsOver, AreOver}
 use Rattle.lemma_checker.specs.Chains.{has_empty}
-use Rattle.lemma_checker.specs.Propagation.{IsFalse, IsConflictFree, DoesNotConflict, IsNew, AreNew}
+use Rattle.lemma_checker.specs.Propagation.{DoesNotConflict, IsNew, AreNew}
 use Rattle.lemma_checker.proofs.ListLemmas.{get_left, get_last}
 use Rattle.lemma_checker.proofs.ChainLemmas.{over_join}
 use Rattle.lemma_checker.proofs.LawProofs.{opposite_plain, opposite_negated, new_has_no_variable_twice}

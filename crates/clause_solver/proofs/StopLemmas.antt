@@ -1,17 +1,16 @@
 -- The learned clause is new, and lets the trail go back.
-use Rattle.std.proofs.Common.{◌≡◌, ◌≢◌, ℕ, zero, suc, ◌+◌, ◌-◌, ◌*◌, ◌<◌, ◌≤◌, ◌⊎◌, Bool, true, false, not, ◌||◌, ◌&&◌, eqb, List, [], ◌∷◌, ◌++◌, length, take, set, replicate, get_or, Option, Some, None, slice_get, refl, ap, ◌∙◌, sym, subst, inl, inr, arith, true≢false, eq-eqb}
+use Rattle.std.proofs.Common.{◌≡◌, ◌≢◌, ℕ, zero, suc, ◌+◌, ◌<◌, ◌≤◌, Bool, true, false, not, eqb, List, [], ◌∷◌, ◌++◌, length, take, set, replicate, Some, slice_get, refl, ap, ◌∙◌, sym, subst, inl, inr, arith, true≢false, eq-eqb}
 use Rattle.std.proofs.Math.Path.{fun_ext}
 use Rattle.std.proofs.lemmas.Option.{slice_get_within}
-use Rattle.std.proofs.lemmas.Bool.{cases_eq, cases_lt, cases_Bool, and_parts, false_from_ne_true, not-true}
+use Rattle.std.proofs.lemmas.Bool.{cases_lt, and_parts, false_from_ne_true, not-true}
 use Rattle.std.proofs.lemmas.List.{take-take, take_at, take-append-le, length_push, get_or-replicate, get_or_past, length-replicate}
 use Rattle.lemma_checker.specs.declared.literal.Literal.{Literal}
-use Rattle.lemma_checker.specs.Clauses.{opposite, has, set_of, at, AreDistinct}
+use Rattle.lemma_checker.specs.Clauses.{opposite, has, set_of, at}
 use Rattle.lemma_checker.specs.Chains.{numbered}
-use Rattle.lemma_checker.specs.Propagation.{AreOthersFalse, AreApart, IsClosed, IsConflictFree, IsNew, AreNew, opposites_but}
+use Rattle.lemma_checker.specs.Propagation.{IsConflictFree, IsNew, AreNew}
 use Rattle.lemma_checker.proofs.ListLemmas.{get_push, get_last}
 use Rattle.lemma_checker.proofs.LawProofs.{opposite_back}
-use Rattle.watch_lists.specs.Trails.{IsSettled, IsQuiet, HasTwoOpen, IsTrail}
-use Rattle.watch_lists.specs.Scans.{IsForced}
+use Rattle.watch_lists.specs.Trails.{IsSettled, HasTwoOpen, IsTrail}
 use Rattle.watch_lists.proofs.Lists.{get_front, has_longer}
 use Rattle.watch_lists.proofs.TrailLemmas.{trail_cut, trail_add, trail_push}
 use Rattle.clause_solver.specs.Walks.{HasOther, IsStop}

@@ -1,19 +1,17 @@
 -- Steps of the way back along the trail.
-use Rattle.std.proofs.Common.{◌≡◌, ◌≢◌, ℕ, zero, suc, ◌+◌, ◌-◌, ◌*◌, ◌/◌, ◌%◌, ◌<◌, ◌≤◌, ◌⊎◌, Bool, true, false, not, ◌||◌, ◌&&◌, eqb, List, [], ◌∷◌, ◌++◌, length, take, get_or, Option, Some, None, slice_get, refl, ap, ◌∙◌, sym, subst, inl, inr, arith, true≢false, eq-eqb}
-use Rattle.std.specs.Option.{option_and_then}
+use Rattle.std.proofs.Common.{◌≡◌, ◌≢◌, ℕ, ◌+◌, ◌-◌, ◌*◌, ◌/◌, ◌<◌, ◌≤◌, Bool, true, false, not, ◌||◌, eqb, List, [], ◌∷◌, ◌++◌, length, take, get_or, Some, slice_get, refl, ap, ◌∙◌, sym, inl, inr, arith, true≢false, eq-eqb}
 use Rattle.std.proofs.lemmas.Option.{slice_get_within, slice_get-get_or, get_or_from_slice_get, option_and_then_some}
-use Rattle.std.proofs.lemmas.Bool.{cases_eq, cases_Bool, or_cases, or_left, and_parts, false_from_ne_true, ne_eqb}
-use Rattle.std.proofs.lemmas.List.{take_more, take-take}
+use Rattle.std.proofs.lemmas.Bool.{or_cases, and_parts, false_from_ne_true}
+use Rattle.std.proofs.lemmas.List.{take_more}
 use Rattle.lemma_checker.specs.declared.literal.Literal.{Literal}
 use Rattle.lemma_checker.specs.Clauses.{opposite, has, set_of, at, AreDistinct}
 use Rattle.lemma_checker.specs.Chains.{clash, clashes, resolved, resolve_with, numbered, chain_from, chain_result}
 use Rattle.lemma_checker.specs.Checker.{Lists}
-use Rattle.lemma_checker.specs.Propagation.{AreOthersFalse, IsFalse, AreApart}
+use Rattle.lemma_checker.specs.Propagation.{AreOthersFalse, AreApart}
 use Rattle.lemma_checker.proofs.LawProofs.{opposite_back, opposite_other, opposite_half, opposite_plain, opposite_negated}
 use Rattle.lemma_checker.proofs.Semantics.{of_variable}
-use Rattle.watch_lists.specs.Trails.{IsTrail}
 use Rattle.watch_lists.proofs.Lists.{has_front, lacks_front, has_longer, has_at, push_cases, get_take}
-use Rattle.clause_solver.specs.Walks.{IsEnd, IsBetween, IsFound, IsWalk, HasOther, IsStop, IsStopAt}
+use Rattle.clause_solver.specs.Walks.{IsFound, IsWalk, IsStopAt}
 
 -- a literal of the first i + 1 that is not the last is of the first i
 pub front_less : (t : List Literal) (i : ℕ) (x : Literal) (l : ℕ) → slice_get t i ≡ Some x → l ≢ x.0 → has l (take (i + 1) t) ≡ true → has l (take i t) ≡ true

@@ -1,9 +1,9 @@
 -- The solver's state between two turns, and its three answers.
-use Rattle.std.specs.Prelude.{◌≡◌, ◌≢◌, ℕ, ◌+◌, ◌*◌, ◌^◌, ◌<◌, ◌≤◌, ◌⊎◌, Bool, true, false, List, ◌++◌, length, Option, Some, None, slice_get}
+use Rattle.std.specs.Prelude.{◌≡◌, ℕ, ◌+◌, ◌*◌, ◌^◌, ◌<◌, ◌≤◌, ◌⊎◌, Bool, true, false, List, ◌++◌, length, Option, Some, None, slice_get}
 use Rattle.lemma_checker.specs.declared.literal.Literal.{Literal}
 use Rattle.lemma_checker.specs.declared.formula.Formula.{Formula}
 use Rattle.lemma_checker.specs.declared.lemmas.Lemmas.{Lemmas}
-use Rattle.lemma_checker.specs.Clauses.{opposite, has, set_of, at}
+use Rattle.lemma_checker.specs.Clauses.{opposite, has, at}
 use Rattle.lemma_checker.specs.Chains.{has_empty}
 use Rattle.lemma_checker.specs.Propagation.{DoesNotConflict, AreNew}
 use Rattle.watch_lists.specs.declared.trail.Trail.{Trail}

@@ -1,10 +1,9 @@
 -- Going back along the trail from a false clause.
-use Rattle.std.specs.Prelude.{◌≡◌, ◌≢◌, ℕ, ◌+◌, ◌<◌, ◌≤◌, Bool, true, false, List, [], ◌∷◌, ◌++◌, length, take, Option, Some, None, slice_get}
+use Rattle.std.specs.Prelude.{◌≡◌, ◌≢◌, ℕ, ◌+◌, ◌<◌, ◌≤◌, Bool, true, false, List, length, take, Some, slice_get}
 use Rattle.lemma_checker.specs.declared.literal.Literal.{Literal}
-use Rattle.lemma_checker.specs.Clauses.{opposite, has, set_of, at}
+use Rattle.lemma_checker.specs.Clauses.{opposite, has, at}
 use Rattle.lemma_checker.specs.Chains.{chain_result}
 use Rattle.lemma_checker.specs.Checker.{Lists}
-use Rattle.watch_lists.specs.Trails.{IsTrail}
 
 -- the opposites of the set's literals that stand before i stand before `low`, the last of them just there
 pub record IsEnd (f : ℕ → Bool) (t : List Literal) (i low : ℕ) : Type 0 where

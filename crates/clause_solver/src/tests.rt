@@ -43,14 +43,22 @@ fn formula_of(alloc: Global, vars: u32, lists: &[Vec<i32>]) -> Result<Option<For
     Ok(Formula::check(vars, clauses))
 }
 
-/// That so many pigeons don't fit into one hole fewer: variable `pigeon * holes + hole + 1`.
+/// The variable that says that the pigeon sits in the hole.
+fn variable_of(pigeon: i32, hole: i32, holes: i32) -> i32 {
+    pigeon
+        .wrapping_mul(holes)
+        .wrapping_add(hole)
+        .wrapping_add(1)
+}
+
+/// That so many pigeons don't fit into one hole fewer.
 fn pigeons(alloc: Global, holes: i32) -> Result<Vec<Vec<i32>>, AllocError> {
     let mut lists = Vec::new(alloc);
     let holes = holes.clamp(1, 8);
     for pigeon in 0..holes + 1 {
         let mut places = Vec::new(alloc);
         for hole in 0..holes {
-            places.push(pigeon * holes + hole + 1)?;
+            places.push(variable_of(pigeon, hole, holes))?;
         }
         lists.push(places)?;
     }
@@ -58,8 +66,8 @@ fn pigeons(alloc: Global, holes: i32) -> Result<Vec<Vec<i32>>, AllocError> {
         for first in 0..holes + 1 {
             for second in 0..first {
                 let mut pair = Vec::new(alloc);
-                pair.push(-(first * holes + hole + 1))?;
-                pair.push(-(second * holes + hole + 1))?;
+                pair.push(variable_of(first, hole, holes).wrapping_neg())?;
+                pair.push(variable_of(second, hole, holes).wrapping_neg())?;
                 lists.push(pair)?;
             }
         }

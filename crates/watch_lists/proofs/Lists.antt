@@ -1,12 +1,11 @@
 -- Fronts of lists, and clauses as sets.
-use Rattle.std.proofs.Common.{◌≡◌, ◌≢◌, ℕ, zero, suc, ◌+◌, ◌-◌, ◌<◌, ◌≤◌, ◌⊎◌, Bool, true, false, ◌||◌, eqb, List, [], ◌∷◌, ◌++◌, length, take, get_or, Option, Some, None, slice_get, refl, ap, ◌∙◌, sym, subst, inl, inr, arith, true≢false, eq-eqb, add-one}
+use Rattle.std.proofs.Common.{◌≡◌, ◌≢◌, ℕ, zero, suc, ◌+◌, ◌<◌, ◌≤◌, ◌⊎◌, Bool, true, false, eqb, List, [], ◌∷◌, ◌++◌, length, take, get_or, Some, slice_get, refl, ap, ◌∙◌, sym, inl, inr, arith, true≢false, eq-eqb}
 use Rattle.std.proofs.Math.Path.{fun_ext}
-use Rattle.std.proofs.lemmas.Option.{slice_get_within, get_or_from_slice_get}
-use Rattle.std.proofs.lemmas.Bool.{cases_eq, or_cases, or_left, or_right, or_from, ne_eqb, eqb-true, false_from_ne_true}
+use Rattle.std.proofs.lemmas.Bool.{cases_eq, or_cases, or_left, or_right, eqb-true, false_from_ne_true}
 use Rattle.std.proofs.lemmas.List.{take_more, take-take}
 use Rattle.lemma_checker.specs.declared.literal.Literal.{Literal}
 use Rattle.lemma_checker.specs.Clauses.{has, set_of, AreDistinct}
-use Rattle.lemma_checker.proofs.CollectLemmas.{has_push, has_push_old, has_push_new, has_push_other}
+use Rattle.lemma_checker.proofs.CollectLemmas.{has_push_other}
 
 -- an element of a front is one of the list, before its end
 pub get_front : {X : Type 0} (n : ℕ) (xs : List X) (i : ℕ) (x : X) → slice_get (take n xs) i ≡ Some x → (i < n) × (slice_get xs i ≡ Some x)
@@ -49,8 +48,9 @@ pub record Stands (c : List Literal) (l : ℕ) : Type 0 where
 pub place_of : (c : List Literal) (l : ℕ) → has l c ≡ true → Stands c l
 place_of [] l h = absurd (true≢false (sym h))
 place_of (x ∷ xs) l h = elim (or_cases (eqb x.0 l) (has l xs) h) [
-  inl here ↦ record { place = 0; literal = x; is = refl; number = eqb-true x.0 l here }
-  | inr later ↦ let s : Stands xs l = place_of xs l later in record { place = suc s.place; literal = s.literal; is = s.is; number = s.number } ]
+  | inl here ↦ record { place = 0; literal = x; is = refl; number = eqb-true x.0 l here }
+  | inr later ↦ let s : Stands xs l = place_of xs l later in record { place = suc s.place; literal = s.literal; is = s.is; number = s.number }
+]
 
 -- a push onto a clause, as a set
 pub lacks_push : (l : ℕ) (c : List Literal) (x : Literal) → has l c ≡ false → l ≢ x.0 → has l (c ++ x ∷ []) ≡ false
@@ -62,8 +62,9 @@ push_cases l c x h = elim (cases_eq l x.0) [ inl e ↦ inr e | inr away ↦ inl 
 -- one literal less from the end
 pub unset_same : (t : List Literal) (i j : ℕ) (d : Literal) (v w : ℕ → Bool) → j ≡ i + 1 → i < length t → AreDistinct t → slice_get t i ≡ Some (get_or t i d) → v ≡ set_of (take j t) → w (get_or t i d).0 ≡ false → ((l : ℕ) → l ≢ (get_or t i d).0 → w l ≡ v l) → w ≡ set_of (take i t)
 unset_same t i j d v w next lt once is same cleared others = fun_ext (λ l.
-  let x : Literal = get_or t i d in
-  let more : take j t ≡ take i t ++ x ∷ [] = ap (λ (k : ℕ). take k t) next ∙ take_more t i d lt in
-  elim (cases_eq l x.0) [
-    inl e ↦ ap w e ∙ (cleared ∙ (sym (once.once i x is) ∙ ap (λ (k : ℕ). has k (take i t)) (sym e)))
-    | inr away ↦ others l away ∙ (ap (λ (f : ℕ → Bool). f l) same ∙ (ap (has l) more ∙ has_push_other l (take i t) x away)) ])
+    let x : Literal = get_or t i d in
+    let more : take j t ≡ take i t ++ x ∷ [] = ap (λ (k : ℕ). take k t) next ∙ take_more t i d lt in
+    elim (cases_eq l x.0) [
+      | inl e ↦ ap w e ∙ (cleared ∙ (sym (once.once i x is) ∙ ap (λ (k : ℕ). has k (take i t)) (sym e)))
+      | inr away ↦ others l away ∙ (ap (λ (f : ℕ → Bool). f l) same ∙ (ap (has l) more ∙ has_push_other l (take i t) x away))
+    ])

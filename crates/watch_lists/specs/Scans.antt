@@ -1,15 +1,13 @@
 -- What a look at the clauses answers.
-use Rattle.std.specs.Prelude.{◌≡◌, ℕ, ◌+◌, ◌<◌, ◌≤◌, Bool, true, false, List, length, take, Option, Some, None, slice_get}
+use Rattle.std.specs.Prelude.{◌≡◌, ℕ, ◌<◌, ◌≤◌, Bool, true, false, List, length, Option, Some, None, slice_get}
 use Rattle.lemma_checker.specs.declared.literal.Literal.{Literal}
-use Rattle.lemma_checker.specs.Clauses.{opposite, has, set_of, at}
+use Rattle.lemma_checker.specs.Clauses.{opposite, has}
 use Rattle.lemma_checker.specs.Chains.{numbered}
-use Rattle.lemma_checker.specs.Propagation.{AreOthersFalse, IsFalse, AreApart}
+use Rattle.lemma_checker.specs.Propagation.{AreOthersFalse, IsFalse}
 use Rattle.watch_lists.specs.declared.scan.Status.{Status}
 use Rattle.watch_lists.specs.declared.scan.Status.TheVariants as status
-use Rattle.watch_lists.specs.declared.scan.Found.{Found}
-use Rattle.watch_lists.specs.declared.scan.Found.TheVariants as found
-use Rattle.watch_lists.specs.declared.scan.Next.{Next}
-use Rattle.watch_lists.specs.declared.scan.Next.TheVariants as next
+use Rattle.watch_lists.specs.declared.scan.Swept.{Swept}
+use Rattle.watch_lists.specs.declared.scan.Swept.TheVariants as swept
 use Rattle.watch_lists.specs.declared.trail.Trail.{Trail}
 use Rattle.watch_lists.specs.Trails.{IsQuiet, IsSettled, IsTrail}
 
@@ -24,49 +22,34 @@ StatusIs status.Quiet c s = IsQuiet c s
 StatusIs status.False c s = IsFalse c s
 StatusIs (status.Unit l) c s = IsForced c l.0 s
 
--- the clause at this place is false
-pub record IsConflict (clauses : List (List Literal)) (i : ℕ) (s : ℕ → Bool) : Type 0 where
-  pub clause : List Literal
-  pub is : slice_get clauses i ≡ Some clause
-  pub conflict : IsFalse clause s
-
--- the clause at this place forces the literal
-pub record IsUnit (clauses : List (List Literal)) (i l : ℕ) (s : ℕ → Bool) : Type 0 where
-  pub clause : List Literal
-  pub is : slice_get clauses i ≡ Some clause
-  pub forced : IsForced clause l s
-
 -- each clause is quiet
 pub record AreQuiet (clauses : List (List Literal)) (s : ℕ → Bool) : Type 0 where
   pub each : (i : ℕ) (c : List Literal) → slice_get clauses i ≡ Some c → IsQuiet c s
-
-abbrev pub FoundIs : Found → List (List Literal) → (ℕ → Bool) → Type 0
-FoundIs found.Nothing clauses s = AreQuiet clauses s
-FoundIs (found.Conflict i) clauses s = IsConflict clauses i s
-FoundIs (found.Forced i l) clauses s = IsUnit clauses i l.0 s
 
 -- of the clause's literals so far all but the one left are false, and that one is not true and not false
 abbrev pub IsLeft : Option Literal → List Literal → (ℕ → Bool) → Type 0
 IsLeft None c s = IsFalse c s
 IsLeft (Some l) c s = IsForced c l.0 s
 
--- the same by the clause's number
+-- the clause of this number is false
 pub record IsConflictNumber (clauses : List (List Literal)) (k : ℕ) (s : ℕ → Bool) : Type 0 where
   pub few : k ≤ length clauses
   pub clause : List Literal
   pub is : numbered clauses k ≡ Some clause
   pub conflict : IsFalse clause s
 
+-- the clause of this number forces the literal
 pub record IsUnitNumber (clauses : List (List Literal)) (k l : ℕ) (s : ℕ → Bool) : Type 0 where
   pub few : k ≤ length clauses
   pub clause : List Literal
   pub is : numbered clauses k ≡ Some clause
   pub forced : IsForced clause l s
 
-abbrev pub NextIs : Next → List (List Literal) → (ℕ → Bool) → Type 0
-NextIs next.Nothing clauses s = AreQuiet clauses s
-NextIs (next.Conflict k) clauses s = IsConflictNumber clauses k s
-NextIs (next.Forced k l) clauses s = IsUnitNumber clauses k l.0 s
+-- what one look at all clauses leaves
+abbrev pub SweptIs : Swept → List (List Literal) → (ℕ → Bool) → Type 0
+SweptIs swept.Same clauses s = AreQuiet clauses s
+SweptIs swept.More clauses s = Unit {0}
+SweptIs (swept.Conflict k) clauses s = IsConflictNumber clauses k s
 
 -- the trail's parts make a trail over the clauses
 abbrev pub IsTrailOf : List (List Literal) → Trail → Type 0

@@ -1,5 +1,5 @@
 -- Trails of literals, and when unit propagation over a list of clauses has nothing left to do.
-use Rattle.std.specs.Prelude.{◌≡◌, ◌≢◌, ℕ, ◌+◌, ◌<◌, ◌≤◌, Bool, true, false, List, length, take, Option, Some, None, slice_get}
+use Rattle.std.specs.Prelude.{◌≡◌, ◌≢◌, ℕ, ◌<◌, ◌≤◌, Bool, true, false, List, length, take, Some, slice_get}
 use Rattle.lemma_checker.specs.declared.literal.Literal.{Literal}
 use Rattle.lemma_checker.specs.Clauses.{opposite, has, set_of, at, AreDistinct}
 use Rattle.lemma_checker.specs.Chains.{numbered}

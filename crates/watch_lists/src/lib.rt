@@ -2,4 +2,6 @@
 #![tactic(auto)]
 
 pub mod scan;
+#[cfg(test)]
+mod tests;
 pub mod trail;

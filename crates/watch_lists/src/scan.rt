@@ -1,20 +1,18 @@
 //! Unit propagation by looking at all clauses: the plain form.
 
-ghost use Rattle.std.specs.Prelude.{◌≡◌, ℕ, ◌+◌, ◌-◌, ◌*◌, ◌^◌, ◌<◌, ◌≤◌, ◌%◌, Bool, true, false, List, [], ◌∷◌, ◌++◌, length, take, Option, Some, None, slice_get, OnOk, IfOk, count_by, not};
+ghost use Rattle.std.specs.Prelude.{◌≡◌, ℕ, ◌+◌, ◌-◌, ◌*◌, ◌^◌, ◌<◌, ◌≤◌, ◌%◌, Bool, true, false, List, [], ◌∷◌, ◌++◌, length, take, Option, Some, None, slice_get, OnOk, IfOk, Ok, count_by, not};
 ghost use Rattle.lemma_checker.specs.Clauses.{at, set_of, has, opposite};
 ghost use Rattle.lemma_checker.specs.Chains.{numbered};
 ghost use Rattle.lemma_checker.specs.Propagation.{AreApart, IsInEachClosed};
-ghost use Rattle.watch_lists.specs.Trails.{IsSettled};
-ghost use Rattle.watch_lists.specs.Scans.{StatusIs, FoundIs, NextIs, ToldIs, IsTrailOf, AreWithin};
-
-use std::alloc::AllocError;
-use std::vec::Vec;
-
-use lemma_checker::clause::Clause;
-use lemma_checker::literal::Literal;
-use lemma_checker::resolver::is_marked;
+ghost use Rattle.watch_lists.specs.declared.scan.Swept.TheVariants.{More};
+ghost use Rattle.watch_lists.specs.Scans.{StatusIs, SweptIs, ToldIs, IsTrailOf, AreWithin};
 
 use crate::trail::Trail;
+use lemma_checker::clause::Clause;
+use lemma_checker::literal::Literal;
+use lemma_checker::resolver::{clause_at, is_marked};
+use std::alloc::AllocError;
+use std::vec::Vec;
 
 /// How a clause stands under the values.
 #[derive(Clone, Copy, Debug, Drop)]
@@ -27,20 +25,15 @@ pub enum Status {
     Unit(Literal),
 }
 
-/// The first clause, by its place, that isn't quiet.
+/// What one look at all clauses did.
 #[derive(Clone, Copy, Debug, Drop)]
-pub enum Found {
-    Nothing,
-    Conflict(usize),
-    Forced(usize, Literal),
-}
-
-/// The same by the clause's number, from 1.
-#[derive(Clone, Copy, Debug, Drop)]
-pub enum Next {
-    Nothing,
+pub enum Swept {
+    /// Every clause is quiet.
+    Same,
+    /// Literals were added.
+    More,
+    /// The clause of this number is false.
     Conflict(u32),
-    Forced(u32, Literal),
 }
 
 /// How the clause stands under the values.
@@ -70,40 +63,36 @@ pub fn status_of(clause: &[Literal], values: &[bool]) -> Status
     }
 }
 
-/// The first clause that isn't quiet.
-pub fn find_unit(clauses: &[Clause], values: &[bool]) -> Found
-    requires apart { AreApart (at values.now) }
-    ensures { FoundIs result clauses.now (at values.now) }
-{
-    for i in 0..clauses.len() {
-        let clause = &clauses[i];
-        match status_of(clause.as_slice(), values) {
-            Status::Quiet => {}
-            Status::False => return Found::Conflict(i),
-            Status::Unit(literal) => return Found::Forced(i, literal),
-        }
-    }
-    Found::Nothing
-}
-
-/// The first of all clauses that isn't quiet, by its number.
-pub fn next_unit(formula: &[Clause], added: &[Clause], values: &[bool]) -> Next
-    requires apart { AreApart (at values.now) }
+/// Looks at each clause once, in order, and adds the literals that are forced.
+fn sweep(formula: &[Clause], added: &[Clause], trail: &mut Trail) -> Result<Swept, AllocError>
+    requires trail { IsTrailOf (formula.now ++ added.now) trail.old }
+    requires over { AreWithin (length trail.old.values.items) (formula.now ++ added.now) }
     requires few { length formula.now + length added.now < 2 ^ 32 - 1 }
-    ensures { NextIs result (formula.now ++ added.now) (at values.now) }
+    ensures trail { OnOk result (IsTrailOf (formula.now ++ added.now) trail.new) }
+    ensures swept { IfOk result (λ o. SweptIs o (formula.now ++ added.now) (at trail.new.values.items)) }
+    ensures least { OnOk result ((from : ℕ → Bool) → IsInEachClosed (formula.now ++ added.now) from (set_of trail.old.literals.items) → IsInEachClosed (formula.now ++ added.now) from (set_of trail.new.literals.items)) }
+    ensures kept { OnOk result ((l : ℕ) → has l trail.old.literals.items ≡ true → has l trail.new.literals.items ≡ true) }
+    ensures starts { trail.new.starts.items ≡ trail.old.starts.items }
+    ensures size { length trail.new.values.items ≡ length trail.old.values.items }
+    ensures fewer { OnOk result (count_by not trail.new.values.items ≤ count_by not trail.old.values.items) }
+    ensures falls { result ≡ Ok More → count_by not trail.new.values.items < count_by not trail.old.values.items }
 {
-    match find_unit(formula, values) {
-        Found::Conflict(place) => Next::Conflict(place as u32 + 1),
-        Found::Forced(place, literal) => Next::Forced(place as u32 + 1, literal),
-        Found::Nothing => {
-            let before = formula.len() as u32 + 1;
-            match find_unit(added, values) {
-                Found::Conflict(place) => Next::Conflict(before + place as u32),
-                Found::Forced(place, literal) => Next::Forced(before + place as u32, literal),
-                Found::Nothing => Next::Nothing,
+    let end = (formula.len() + added.len()) as u32 + 1;
+    let mut more = false;
+    for number in 1..end {
+        let Some(clause) = clause_at(formula, added, number) else {
+            unreachable!();
+        };
+        match status_of(clause.as_slice(), trail.values.as_slice()) {
+            Status::Quiet => {}
+            Status::False => return Ok(Swept::Conflict(number)),
+            Status::Unit(literal) => {
+                trail.push(literal, number)?;
+                more = true;
             }
         }
     }
+    Ok(if more { Swept::More } else { Swept::Same })
 }
 
 /// Adds what unit propagation gives, by looking at all clauses again and again: a clause's number
@@ -124,11 +113,11 @@ pub fn propagate(
     ensures size { length trail.new.values.items ≡ length trail.old.values.items }
     ensures fewer { OnOk result (count_by not trail.new.values.items ≤ count_by not trail.old.values.items) }
 {
-    loop {
-        match next_unit(formula, added, trail.values.as_slice()) {
-            Next::Nothing => return Ok(None),
-            Next::Conflict(number) => return Ok(Some(number)),
-            Next::Forced(number, literal) => trail.push(literal, number)?,
+    'sweeps: loop {
+        match sweep(formula, added, trail)? {
+            Swept::Same => return Ok(None),
+            Swept::Conflict(number) => return Ok(Some(number)),
+            Swept::More => {}
         }
     }
 }

@@ -3,11 +3,10 @@
 ghost use Rattle.std.specs.Prelude.{◌≡◌, ℕ, ◌+◌, ◌*◌, ◌<◌, ◌≤◌, Bool, true, false, List, [], ◌∷◌, ◌++◌, length, take, replicate, Some, slice_get, slice_set, OnOk, IfOk};
 ghost use Rattle.lemma_checker.specs.Clauses.{at, set_of, has, AreDistinct};
 
-use std::alloc::{AllocError, Global};
-use std::vec::Vec;
-
 use lemma_checker::literal::Literal;
 use lemma_checker::resolver::unmark;
+use std::alloc::{AllocError, Global};
+use std::vec::Vec;
 
 /// The true literals in order, each with the number of the clause that gave it (0 where it was
 /// chosen), the places where the levels start, from level 1 on, how many of the literals are

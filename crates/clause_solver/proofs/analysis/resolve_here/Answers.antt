@@ -1,4 +1,4 @@
-use Rattle.std.proofs.Common.{sym, ap, refl, ◌∙◌, ◌≡◌, true≢false, length, Err, Some, slice_get, ◌++◌}
+use Rattle.std.proofs.Common.{sym, ap, refl, ◌∙◌, true≢false, length, Err}
 use Rattle.std.specs.Option.{option_copied}
 use Rattle.std.proofs.lemmas.Option.{slice_get_read}
 use Rattle.clause_solver.proofs.WalkLemmas.{walk_clash, walk_step}

@@ -1,4 +1,4 @@
-use Rattle.std.proofs.Common.{arith, sym, ap, refl, ◌∙◌, ◌≡◌, ◌<◌, length, Some, subst}
+use Rattle.std.proofs.Common.{arith, sym, ap, refl, ◌∙◌, ◌≡◌, ◌<◌, length, Some}
 use Rattle.std.proofs.lemmas.Option.{slice_get_read, same_Some}
 use Rattle.lemma_checker.specs.Clauses.{at, opposite}
 use Rattle.lemma_checker.specs.declared.literal.Literal.{Literal}

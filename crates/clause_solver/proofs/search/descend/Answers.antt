@@ -1,4 +1,4 @@
-use Rattle.std.proofs.Common.{◌∙◌, sym, ap, length, length-set, set, true, ◌≡◌}
+use Rattle.std.proofs.Common.{◌∙◌, ap, length, length-set, true, ◌≡◌}
 use Rattle.clause_solver.proofs.SolverLemmas.{choose_step}
 use Rattle.clause_solver.proofs.search.descend.Goals as goal
 

@@ -1,4 +1,4 @@
-use Rattle.std.proofs.Common.{arith, sym, ap, ◌∙◌, ◌*◌, ◌+◌}
+use Rattle.std.proofs.Common.{arith, sym, ap, ◌∙◌}
 use Rattle.lemma_checker.specs.Clauses.{at}
 use Rattle.lemma_checker.proofs.LawProofs.{opposite_negated}
 use Rattle.clause_solver.proofs.search.free_literal.Goals as goal

@@ -1,8 +1,7 @@
-use Rattle.std.proofs.Common.{arith, ◌≡◌, ◌<◌, ◌≤◌, ◌+◌, ◌*◌, ◌++◌, ◌∙◌, sym, ap, subst, refl, length, length-append, Some, true, ℕ, Bool}
+use Rattle.std.proofs.Common.{arith, ◌≡◌, ◌+◌, ◌*◌, ◌++◌, ◌∙◌, sym, ap, refl, length, length-append, true, ℕ, Bool}
 use Rattle.std.proofs.lemmas.Option.{same_Some, slice_get_read, slice_get_within}
 use Rattle.std.proofs.lemmas.List.{length_push}
-use Rattle.lemma_checker.specs.Clauses.{set_of, has}
-use Rattle.clause_solver.specs.Walks.{IsStop}
+use Rattle.lemma_checker.specs.Clauses.{has}
 use Rattle.clause_solver.proofs.StopLemmas.{stop_new, news_push}
 use Rattle.clause_solver.proofs.SolverLemmas.{empty_last, learned_range, finish_trail}
 use Rattle.clause_solver.proofs.solver.finish.Goals as goal

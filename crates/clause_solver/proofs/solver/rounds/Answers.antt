@@ -1,4 +1,4 @@
-use Rattle.std.proofs.Common.{arith, ap, sym, ◌∙◌, ◌+◌, ℕ}
+use Rattle.std.proofs.Common.{ap, ◌∙◌, ◌+◌, ℕ}
 use Rattle.clause_solver.proofs.solver.rounds.Goals as goal
 use Rattle.clause_solver.proofs.solver.rounds.Goals.{then-restarts, else-restarts}
 

@@ -1,4 +1,4 @@
-use Rattle.std.proofs.Common.{◌≡◌, ◌*◌, ◌+◌, length}
+use Rattle.std.proofs.Common.{◌≡◌, length}
 use Rattle.lemma_checker.specs.Checker.{Lists}
 use Rattle.clause_solver.specs.Solver.{IsState}
 use Rattle.clause_solver.proofs.solver.rounds.Given as goal

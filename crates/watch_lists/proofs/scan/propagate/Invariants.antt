@@ -5,8 +5,8 @@ use Rattle.lemma_checker.specs.Propagation.{IsInEachClosed}
 use Rattle.watch_lists.specs.Scans.{IsTrailOf}
 use Rattle.watch_lists.proofs.scan.propagate.Given as goal
 
-abbrev pub invariant-loop-number : goal.invariant-loop-number
-invariant-loop-number l = record {
+abbrev pub invariant-sweeps : goal.invariant-sweeps
+invariant-sweeps l = record {
   trail : IsTrailOf (l.formula ++ l.added) l.trail;
   size : length l.trail.values.items ≡ length l.fn.trail.values.items;
   starts : l.trail.starts.items ≡ l.fn.trail.starts.items;
@@ -15,5 +15,5 @@ invariant-loop-number l = record {
   fewer : count_by not l.trail.values.items ≤ count_by not l.fn.trail.values.items;
 }
 
-abbrev pub decreases-loop-number : goal.decreases-loop-number
-decreases-loop-number l = count_by not l.trail.values.items
+abbrev pub decreases-sweeps : goal.decreases-sweeps
+decreases-sweeps l = count_by not l.trail.values.items
