@@ -1,0 +1,4 @@
+pub mod WalkLemmas
+pub mod StopLemmas
+pub mod SolverLemmas
+pub mod FewLemmas

@@ -1,0 +1,22 @@
+use Rattle.std.proofs.Common.{ap, ◌∙◌, ◌+◌, ℕ}
+use Rattle.clause_solver.proofs.solver.rounds.Goals as goal
+use Rattle.clause_solver.proofs.solver.rounds.Goals.{then-restarts, else-restarts}
+
+pub loop-turn-preserved : goal.loop-turn-preserved
+loop-turn-preserved c =
+    let i = c.loop-turn.invariant in
+    let grown = rw c.in-Learned.is at c.in_ok-take_turn.ensures.turn in
+    record {
+      state = elim c.if-restarts.branch [
+        | then-restarts w ↦ rw w.trail-is (record {
+          of = w.to_bottom.ensures.trail _ grown.state.of;
+          size = w.to_bottom.ensures.size ∙ grown.state.size;
+          news = grown.state.news;
+        })
+        | else-restarts w ↦ rw w.trail-is grown.state
+      ];
+      count = grown.more ∙ ap (λ (n : ℕ). n + 1) i.count;
+      vars = c.take_turn.ensures.vars ∙ i.vars;
+      clauses = c.take_turn.ensures.clauses ∙ i.clauses;
+      lists = c.in_ok-take_turn.ensures.lists;
+    }

@@ -1,0 +1,99 @@
+-- The solver's state between two turns, and its three answers.
+use Rattle.std.specs.Prelude.{◌≡◌, ℕ, ◌+◌, ◌*◌, ◌^◌, ◌<◌, ◌≤◌, ◌⊎◌, Bool, true, false, List, ◌++◌, length, Option, Some, None, slice_get}
+use Rattle.lemma_checker.specs.declared.literal.Literal.{Literal}
+use Rattle.lemma_checker.specs.declared.formula.Formula.{Formula}
+use Rattle.lemma_checker.specs.declared.lemmas.Lemmas.{Lemmas}
+use Rattle.lemma_checker.specs.Clauses.{opposite, has, at}
+use Rattle.lemma_checker.specs.Chains.{has_empty}
+use Rattle.lemma_checker.specs.Propagation.{DoesNotConflict, AreNew}
+use Rattle.watch_lists.specs.declared.trail.Trail.{Trail}
+use Rattle.watch_lists.specs.Trails.{IsSettled}
+use Rattle.watch_lists.specs.Scans.{IsTrailOf, IsConflictNumber}
+use Rattle.clause_solver.specs.declared.turn.Turn.{Turn}
+use Rattle.clause_solver.specs.declared.turn.Turn.TheVariants as turn
+use Rattle.clause_solver.specs.declared.answer.Solved.{Solved}
+use Rattle.clause_solver.specs.declared.answer.Solved.TheVariants as solved
+
+-- all clauses of the lemmas: the formula's, then the added ones
+abbrev pub all_of : Lemmas → List (List Literal)
+all_of l = l.formula.clauses.items ++ l.added.items
+
+-- each variable from 1 to `vars` has a value
+pub record AreAssigned (vars : ℕ) (s : ℕ → Bool) : Type 0 where
+  pub each : (v : ℕ) → 1 ≤ v → v ≤ vars → (s (2 * v) ≡ true) ⊎ (s (2 * v + 1) ≡ true)
+
+-- a literal of the variables that is neither true nor false
+pub record IsFree (vars : ℕ) (s : ℕ → Bool) (l : ℕ) : Type 0 where
+  pub low : 2 ≤ l
+  pub high : l < 2 * vars + 2
+  pub not_true : s l ≡ false
+  pub not_false : s (opposite l) ≡ false
+
+-- every variable has a value and nothing is left to do
+pub record IsModel (clauses : List (List Literal)) (vars : ℕ) (s : ℕ → Bool) : Type 0 where
+  pub settled : IsSettled clauses s
+  pub assigned : AreAssigned vars s
+
+-- where the descent ends: with values for all variables, or with a false clause
+abbrev pub EndIs : Option ℕ → List (List Literal) → ℕ → (ℕ → Bool) → Type 0
+EndIs None clauses vars s = IsModel clauses vars s
+EndIs (Some k) clauses vars s = IsConflictNumber clauses k s
+
+-- between two turns
+pub record IsState (l : Lemmas) (t : Trail) : Type 0 where
+  pub of : IsTrailOf (all_of l) t
+  pub size : length t.values.items ≡ 2 * l.formula.vars + 2
+  pub news : AreNew l.formula.clauses.items l.added.items
+
+-- after a lemma was learned
+pub record HasLearned (old new : Lemmas) (before after : Trail) : Type 0 where
+  pub state : IsState new after
+  pub more : length new.added.items ≡ length old.added.items + 1
+  pub started : 0 < length before.starts.items
+
+-- the answer is about the formula
+pub record IsAbout (vars : ℕ) (clauses : List (List Literal)) (f : Formula) : Type 0 where
+  pub same_vars : vars ≡ f.vars
+  pub same_clauses : clauses ≡ f.clauses.items
+
+-- a clause with a literal, and with no variable twice
+pub record IsProper (c : List Literal) : Type 0 where
+  pub some : 0 < length c
+  pub single : (v : ℕ) → has (2 * v) c ≡ true → has (2 * v + 1) c ≡ true → ⊥
+
+-- the lemmas of a spent budget: enough, each new to the clauses before it, with no conflict of unit propagation left
+pub record IsSpent (l : Lemmas) (f : Formula) (budget : ℕ) : Type 0 where
+  pub about : IsAbout l.formula.vars l.formula.clauses.items f
+  pub full : budget ≤ length l.added.items
+  pub chains : length l.chains.items ≡ length l.added.items
+  pub news : AreNew l.formula.clauses.items l.added.items
+  pub proper : (i : ℕ) (c : List Literal) → slice_get l.added.items i ≡ Some c → IsProper c
+  pub quiet : DoesNotConflict (all_of l) (λ _. false)
+  pub small : budget < 3 ^ l.formula.vars
+
+-- what a turn of learning leaves
+abbrev pub TurnIs : Turn → Lemmas → Lemmas → Trail → Trail → Type 0
+TurnIs turn.Assigned old new before after = ⊥
+TurnIs turn.Learned old new before after = HasLearned old new before after
+TurnIs turn.Refuted old new before after = has_empty (all_of new) ≡ true
+
+-- all variables have values under which no clause is false
+pub record IsSolved (l : Lemmas) (t : Trail) : Type 0 where
+  pub state : IsState l t
+  pub model : IsModel (all_of l) l.formula.vars (at t.values.items)
+
+-- one lemma more
+pub record HasGrown (old new : Lemmas) (after : Trail) : Type 0 where
+  pub state : IsState new after
+  pub more : length new.added.items ≡ length old.added.items + 1
+
+-- what a whole turn leaves
+abbrev pub RoundIs : Turn → Lemmas → Lemmas → Trail → Type 0
+RoundIs turn.Assigned old new after = IsSolved new after
+RoundIs turn.Learned old new after = HasGrown old new after
+RoundIs turn.Refuted old new after = has_empty (all_of new) ≡ true
+
+abbrev pub SolvedIs : Solved → Formula → ℕ → Type 0
+SolvedIs (solved.Sat s) f budget = IsAbout s.formula.vars s.formula.clauses.items f
+SolvedIs (solved.Unsat r) f budget = IsAbout r.formula.vars r.formula.clauses.items f
+SolvedIs (solved.Spent l) f budget = IsSpent l f budget

@@ -1,0 +1,159 @@
+//! What is learned from a conflict: a chain, and the level to go back to.
+
+ghost use Rattle.std.specs.Prelude.{◌≡◌, ◌≢◌, ℕ, ◌+◌, ◌-◌, ◌*◌, ◌/◌, ◌^◌, ◌<◌, ◌≤◌, Bool, true, false, List, [], ◌∷◌, ◌++◌, length, take, Option, Some, None, slice_get, OnOk, IfOk, IfSome, IfNone};
+ghost use Rattle.lemma_checker.specs.Clauses.{at, set_of, has, opposite};
+ghost use Rattle.lemma_checker.specs.Checker.{Lists};
+ghost use Rattle.watch_lists.specs.Scans.{IsTrailOf, AreWithin, IsConflictNumber};
+ghost use Rattle.clause_solver.specs.Walks.{IsWalk};
+ghost use Rattle.clause_solver.specs.Analyses.{IsMarkedAt, StepIs, AnalysisIs};
+
+use crate::walk::stop_at;
+use lemma_checker::chain::{Chain, ChainFault};
+use lemma_checker::clause::Clause;
+use lemma_checker::literal::Literal;
+use lemma_checker::resolver::{clause_at, clear, is_marked, merge, resolve};
+use std::alloc::{AllocError, Global};
+use std::vec::Vec;
+use watch_lists::trail::Trail;
+
+/// Where the solver goes back to: the level, and the literal that the learned clause then forces.
+#[derive(Clone, Copy, Debug, Drop)]
+pub struct Stop {
+    pub literal: Literal,
+    pub level: usize,
+}
+
+/// The chain of the learned clause, and where to go back to; nowhere where the clause is empty.
+#[derive(Debug, Drop)]
+pub struct Analysis {
+    pub chain: Chain,
+    pub stop: Option<Stop>,
+}
+
+/// Resolves the marked set with the reason of the literal at the place.
+fn resolve_here(
+    formula: &[Clause],
+    added: &[Clause],
+    trail: &Trail,
+    i: usize,
+    id: u32,
+    seen: &mut [bool],
+    touched: &mut Vec<Literal>,
+    chain: &mut Chain,
+) -> Result<(), AllocError>
+    requires trail { IsTrailOf (formula.now ++ added.now) trail.now }
+    requires over { AreWithin (length trail.now.values.items) (formula.now ++ added.now) }
+    requires within { i < length trail.now.literals.items }
+    requires reason { slice_get trail.now.reasons.items i ≡ Some id }
+    requires forced { id ≢ 0 }
+    requires walk { IsWalk (length trail.now.values.items) (formula.now ++ added.now) trail.now.literals.items (i + 1) seen.old touched.old.items chain.old.ids.items chain.old.pivots.items }
+    requires marked { IsMarkedAt (at seen.old) trail.now.literals.items i }
+    ensures { OnOk result (IsWalk (length trail.now.values.items) (formula.now ++ added.now) trail.now.literals.items i seen.new touched.new.items chain.new.ids.items chain.new.pivots.items) }
+{
+    let Some(clause) = clause_at(formula, added, id) else {
+        unreachable!();
+    };
+    let pivot = trail.literals[i].variable();
+    chain.ids.push(id)?;
+    chain.pivots.push(pivot)?;
+    match resolve(seen, touched, clause.as_slice(), pivot) {
+        Ok(()) => Ok(()),
+        Err(ChainFault::NoMemory) => Err(AllocError),
+        Err(ChainFault::BadStep) => unreachable!(),
+    }
+}
+
+/// How many of these literals are of a level.
+fn count_of_level(literals: &[Literal], levels: &[u32], level: usize) -> usize {
+    literals
+        .iter()
+        .filter(|x| levels.get(x.variable() as usize).copied().unwrap_or(0) as usize == level)
+        .count()
+}
+
+/// One step back: at a literal whose opposite isn't marked the walk goes on; at another one it stops
+/// where the clause so far forces the opposite at some level's start, else the clause is resolved
+/// with the literal's reason. `open` says how many marked literals are of the last level.
+fn step_back(
+    formula: &[Clause],
+    added: &[Clause],
+    trail: &Trail,
+    i: usize,
+    seen: &mut [bool],
+    touched: &mut Vec<Literal>,
+    chain: &mut Chain,
+    open: &mut usize,
+    levels: &[u32],
+) -> Result<Option<usize>, AllocError>
+    requires trail { IsTrailOf (formula.now ++ added.now) trail.now }
+    requires over { AreWithin (length trail.now.values.items) (formula.now ++ added.now) }
+    requires within { i < length trail.now.literals.items }
+    requires walk { IsWalk (length trail.now.values.items) (formula.now ++ added.now) trail.now.literals.items (i + 1) seen.old touched.old.items chain.old.ids.items chain.old.pivots.items }
+    ensures { IfOk result (λ o. StepIs o (length trail.now.values.items) (formula.now ++ added.now) trail.now.literals.items trail.now.starts.items i seen.new touched.new.items chain.new.ids.items chain.new.pivots.items) }
+{
+    let literal = trail.literals[i];
+    if !is_marked(seen, literal.opposite().0 as usize) {
+        return Ok(None);
+    }
+    let id = trail.reasons[i];
+    if let Some(level) = stop_at(*open, id, seen, trail, i) {
+        return Ok(Some(level));
+    }
+    let before = touched.len();
+    resolve_here(formula, added, trail, i, id, seen, touched, chain)?;
+    let more = match touched.get(before..) {
+        Some(new) => count_of_level(new, levels, trail.starts.len()),
+        None => 0,
+    };
+    *open = open.saturating_sub(1).saturating_add(more);
+    Ok(None)
+}
+
+/// The chain that the conflict gives, and where to go back to. `levels` has by variable the level at
+/// which it got its value, and only guides the search.
+pub fn analyze(
+    alloc: Global,
+    formula: &[Clause],
+    added: &[Clause],
+    trail: &Trail,
+    conflict: u32,
+    seen: &mut [bool],
+    touched: &mut Vec<Literal>,
+    levels: &[u32],
+) -> Result<Analysis, AllocError>
+    requires trail { IsTrailOf (formula.now ++ added.now) trail.now }
+    requires over { AreWithin (length trail.now.values.items) (formula.now ++ added.now) }
+    requires conflict { IsConflictNumber (formula.now ++ added.now) conflict (set_of trail.now.literals.items) }
+    requires size { length seen.old ≡ length trail.now.values.items }
+    requires lists { Lists seen.old touched.old.items }
+    ensures lists { OnOk result (Lists seen.new touched.new.items) }
+    ensures analysis { IfOk result (λ a. AnalysisIs (formula.now ++ added.now) trail.now.literals.items trail.now.starts.items a) }
+{
+    clear(seen, touched);
+    let Some(clause) = clause_at(formula, added, conflict) else {
+        unreachable!();
+    };
+    merge(seen, touched, clause.as_slice())?;
+    let mut ids = Vec::new(alloc);
+    ids.push(conflict)?;
+    let mut chain = Chain {
+        ids,
+        pivots: Vec::new(alloc),
+    };
+    let mut open = count_of_level(touched.as_slice(), levels, trail.starts.len());
+    let mut i = trail.literals.len();
+    while i > 0 {
+        i -= 1;
+        let step = step_back(
+            formula, added, trail, i, seen, touched, &mut chain, &mut open, levels,
+        )?;
+        if let Some(level) = step {
+            let literal = trail.literals[i].opposite();
+            return Ok(Analysis {
+                chain,
+                stop: Some(Stop { literal, level }),
+            });
+        }
+    }
+    Ok(Analysis { chain, stop: None })
+}

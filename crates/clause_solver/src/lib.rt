@@ -1,0 +1,13 @@
+//! The clause solver.
+#![tactic(auto)]
+
+pub mod analysis;
+pub mod answer;
+pub mod ends;
+pub mod order;
+pub mod search;
+pub mod solver;
+#[cfg(test)]
+mod tests;
+pub mod turn;
+pub mod walk;
