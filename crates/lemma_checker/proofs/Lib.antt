@@ -1,4 +1,5 @@
 pub mod ListLemmas
+pub mod PieceLemmas
 pub mod ClauseLemmas
 pub mod ChainSteps
 pub mod CollectLemmas

@@ -1,4 +1,5 @@
 pub mod Clauses
+pub mod Pieces
 pub mod Chains
 pub mod Propagation
 pub mod Checker

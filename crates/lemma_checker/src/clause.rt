@@ -16,7 +16,7 @@ pub fn has_number(clause: &[Literal], number: usize) -> bool
 }
 
 /// Whether no literal stands twice.
-fn are_distinct(literals: &[Literal]) -> bool
+pub fn are_distinct(literals: &[Literal]) -> bool
     ensures { IsTrue result ↔ AreDistinct literals.now }
 {
     for i in 0..literals.len() {

@@ -5,6 +5,7 @@ pub mod answer;
 pub mod chain;
 pub mod checker;
 pub mod clause;
+pub mod clauses;
 pub mod formula;
 pub mod laws;
 pub mod lemmas;

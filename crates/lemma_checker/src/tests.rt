@@ -2,7 +2,8 @@
 
 use crate::chain::{Chain, ChainFault};
 use crate::checker::model_of;
-use crate::clause::Clause;
+use crate::clause::{Clause, are_distinct};
+use crate::clauses::Clauses;
 use crate::formula::Formula;
 use crate::lemmas::Lemmas;
 use crate::literal::Literal;
@@ -195,5 +196,24 @@ fn a_chain_that_resolves_is_added(rt: HostRuntime) -> Result<(), Fail> {
         pivots: Vec::new(alloc),
     };
     assert_eq!(rt; lemmas.resolve_chain(alloc, chain)?, 10);
+    Ok(())
+}
+
+#[test]
+fn clauses_stand_one_after_another(rt: HostRuntime) -> Result<(), Fail> {
+    let alloc = rt.alloc();
+    let mut clauses = Clauses::new(alloc);
+    assert!(rt; clauses.is_empty());
+    let lists: [&[Literal]; 3] = [&[Literal(2), Literal(5)], &[], &[Literal(4)]];
+    for list in &lists {
+        if are_distinct(list) {
+            clauses.push(list)?;
+        }
+    }
+    assert_eq!(rt; clauses.len(), 3);
+    for (i, list) in lists.iter().enumerate() {
+        assert_eq!(rt; clauses.get(i), Some(*list));
+    }
+    assert_eq!(rt; clauses.get(3), None);
     Ok(())
 }
