@@ -2,3 +2,4 @@ pub mod WalkLemmas
 pub mod StopLemmas
 pub mod SolverLemmas
 pub mod FewLemmas
+pub mod AnswerLemmas

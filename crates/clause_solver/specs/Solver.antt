@@ -16,7 +16,7 @@ use Rattle.clause_solver.specs.declared.answer.Solved.TheVariants as solved
 
 -- all clauses of the lemmas: the formula's, then the added ones
 abbrev pub all_of : Lemmas → List (List Literal)
-all_of l = l.formula.clauses.items ++ l.added.items
+all_of l = l.formula.clauses ++ l.added
 
 -- each variable from 1 to `vars` has a value
 pub record AreAssigned (vars : ℕ) (s : ℕ → Bool) : Type 0 where
@@ -43,18 +43,18 @@ EndIs (Some k) clauses vars s = IsConflictNumber clauses k s
 pub record IsState (l : Lemmas) (t : Trail) : Type 0 where
   pub of : IsTrailOf (all_of l) t
   pub size : length t.values.items ≡ 2 * l.formula.vars + 2
-  pub news : AreNew l.formula.clauses.items l.added.items
+  pub news : AreNew l.formula.clauses l.added
 
 -- after a lemma was learned
 pub record HasLearned (old new : Lemmas) (before after : Trail) : Type 0 where
   pub state : IsState new after
-  pub more : length new.added.items ≡ length old.added.items + 1
+  pub more : length new.added ≡ length old.added + 1
   pub started : 0 < length before.starts.items
 
 -- the answer is about the formula
 pub record IsAbout (vars : ℕ) (clauses : List (List Literal)) (f : Formula) : Type 0 where
   pub same_vars : vars ≡ f.vars
-  pub same_clauses : clauses ≡ f.clauses.items
+  pub same_clauses : clauses ≡ f.clauses
 
 -- a clause with a literal, and with no variable twice
 pub record IsProper (c : List Literal) : Type 0 where
@@ -63,11 +63,11 @@ pub record IsProper (c : List Literal) : Type 0 where
 
 -- the lemmas of a spent budget: enough, each new to the clauses before it, with no conflict of unit propagation left
 pub record IsSpent (l : Lemmas) (f : Formula) (budget : ℕ) : Type 0 where
-  pub about : IsAbout l.formula.vars l.formula.clauses.items f
-  pub full : budget ≤ length l.added.items
-  pub chains : length l.chains.items ≡ length l.added.items
-  pub news : AreNew l.formula.clauses.items l.added.items
-  pub proper : (i : ℕ) (c : List Literal) → slice_get l.added.items i ≡ Some c → IsProper c
+  pub about : IsAbout l.formula.vars l.formula.clauses f
+  pub full : budget ≤ length l.added
+  pub chains : length l.chains.items ≡ length l.added
+  pub news : AreNew l.formula.clauses l.added
+  pub proper : (i : ℕ) (c : List Literal) → slice_get l.added i ≡ Some c → IsProper c
   pub quiet : DoesNotConflict (all_of l) (λ _. false)
   pub small : budget < 3 ^ l.formula.vars
 
@@ -85,7 +85,7 @@ pub record IsSolved (l : Lemmas) (t : Trail) : Type 0 where
 -- one lemma more
 pub record HasGrown (old new : Lemmas) (after : Trail) : Type 0 where
   pub state : IsState new after
-  pub more : length new.added.items ≡ length old.added.items + 1
+  pub more : length new.added ≡ length old.added + 1
 
 -- what a whole turn leaves
 abbrev pub RoundIs : Turn → Lemmas → Lemmas → Trail → Type 0
@@ -94,6 +94,6 @@ RoundIs turn.Learned old new after = HasGrown old new after
 RoundIs turn.Refuted old new after = has_empty (all_of new) ≡ true
 
 abbrev pub SolvedIs : Solved → Formula → ℕ → Type 0
-SolvedIs (solved.Sat s) f budget = IsAbout s.formula.vars s.formula.clauses.items f
-SolvedIs (solved.Unsat r) f budget = IsAbout r.formula.vars r.formula.clauses.items f
+SolvedIs (solved.Sat s) f budget = IsAbout s.formula.vars s.formula.clauses f
+SolvedIs (solved.Unsat r) f budget = IsAbout r.formula.vars r.formula.clauses f
 SolvedIs (solved.Spent l) f budget = IsSpent l f budget

@@ -9,7 +9,7 @@ ghost use Rattle.clause_solver.specs.Analyses.{IsMarkedAt, StepIs, AnalysisIs};
 
 use crate::walk::stop_at;
 use lemma_checker::chain::{Chain, ChainFault};
-use lemma_checker::clause::Clause;
+use lemma_checker::clauses::Clauses;
 use lemma_checker::literal::Literal;
 use lemma_checker::resolver::{clause_at, clear, is_marked, merge, resolve};
 use std::alloc::{AllocError, Global};
@@ -32,8 +32,8 @@ pub struct Analysis {
 
 /// Resolves the marked set with the reason of the literal at the place.
 fn resolve_here(
-    formula: &[Clause],
-    added: &[Clause],
+    formula: &Clauses,
+    added: &Clauses,
     trail: &Trail,
     i: usize,
     id: u32,
@@ -56,7 +56,7 @@ fn resolve_here(
     let pivot = trail.literals[i].variable();
     chain.ids.push(id)?;
     chain.pivots.push(pivot)?;
-    match resolve(seen, touched, clause.as_slice(), pivot) {
+    match resolve(seen, touched, clause, pivot) {
         Ok(()) => Ok(()),
         Err(ChainFault::NoMemory) => Err(AllocError),
         Err(ChainFault::BadStep) => unreachable!(),
@@ -75,8 +75,8 @@ fn count_of_level(literals: &[Literal], levels: &[u32], level: usize) -> usize {
 /// where the clause so far forces the opposite at some level's start, else the clause is resolved
 /// with the literal's reason. `open` says how many marked literals are of the last level.
 fn step_back(
-    formula: &[Clause],
-    added: &[Clause],
+    formula: &Clauses,
+    added: &Clauses,
     trail: &Trail,
     i: usize,
     seen: &mut [bool],
@@ -113,8 +113,8 @@ fn step_back(
 /// which it got its value, and only guides the search.
 pub fn analyze(
     alloc: Global,
-    formula: &[Clause],
-    added: &[Clause],
+    formula: &Clauses,
+    added: &Clauses,
     trail: &Trail,
     conflict: u32,
     seen: &mut [bool],
@@ -133,7 +133,7 @@ pub fn analyze(
     let Some(clause) = clause_at(formula, added, conflict) else {
         unreachable!();
     };
-    merge(seen, touched, clause.as_slice())?;
+    merge(seen, touched, clause)?;
     let mut ids = Vec::new(alloc);
     ids.push(conflict)?;
     let mut chain = Chain {

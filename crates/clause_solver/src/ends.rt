@@ -31,7 +31,7 @@ fn values_of(alloc: Global, values: &[bool], vars: u32) -> Result<Vec<bool>, All
 /// The formula with the values of all variables, under which no clause is false.
 pub fn model(alloc: Global, lemmas: Lemmas, values: &[bool]) -> Result<Satisfied, AllocError>
     requires model { IsModel (all_of lemmas) lemmas.formula.vars (at values.now) }
-    ensures { IfOk result (λ s. IsAbout s.formula.vars s.formula.clauses.items lemmas.formula) }
+    ensures { IfOk result (λ s. IsAbout s.formula.vars s.formula.clauses lemmas.formula) }
 {
     let formula = lemmas.into_formula();
     let taken = values_of(alloc, values, formula.vars)?;
@@ -44,7 +44,7 @@ pub fn model(alloc: Global, lemmas: Lemmas, values: &[bool]) -> Result<Satisfied
 /// The refutation, where the empty clause was added.
 pub fn refute(lemmas: Lemmas) -> Refutation
     requires empty { has_empty (all_of lemmas) ≡ true }
-    ensures { IsAbout result.formula.vars result.formula.clauses.items lemmas.formula }
+    ensures { IsAbout result.formula.vars result.formula.clauses lemmas.formula }
 {
     match lemmas.refuted() {
         Ok(refutation) => refutation,

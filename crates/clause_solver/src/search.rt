@@ -6,7 +6,7 @@ ghost use Rattle.watch_lists.specs.Scans.{IsTrailOf, AreWithin};
 ghost use Rattle.clause_solver.specs.Solver.{AreAssigned, IsFree, EndIs};
 
 use crate::order::Order;
-use lemma_checker::clause::Clause;
+use lemma_checker::clauses::Clauses;
 use lemma_checker::literal::Literal;
 use lemma_checker::resolver::is_marked;
 use std::alloc::AllocError;
@@ -47,8 +47,8 @@ fn free_literal(values: &[bool], vars: u32, hint: Literal) -> Option<Literal>
 /// Propagates and chooses until a clause is false, whose number it answers, or until each variable
 /// has a value.
 pub fn descend(
-    formula: &[Clause],
-    added: &[Clause],
+    formula: &Clauses,
+    added: &Clauses,
     trail: &mut Trail,
     vars: u32,
     order: &mut Order,

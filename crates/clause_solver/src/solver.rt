@@ -27,33 +27,27 @@ use watch_lists::trail::Trail;
 fn examine(lemmas: &Lemmas, trail: &mut Trail, order: &mut Order) -> Result<Option<u32>, AllocError>
     requires trail { IsTrailOf (all_of lemmas.now) trail.old }
     requires size { length trail.old.values.items ≡ 2 * lemmas.now.formula.vars + 2 }
-    requires few { length lemmas.now.formula.clauses.items + length lemmas.now.added.items < 2 ^ 31 }
+    requires few { length lemmas.now.formula.clauses + length lemmas.now.added < 2 ^ 31 }
     ensures trail { OnOk result (IsTrailOf (all_of lemmas.now) trail.new) }
     ensures end { IfOk result (λ o. EndIs o (all_of lemmas.now) lemmas.now.formula.vars (set_of trail.new.literals.items)) }
     ensures size { OnOk result (length trail.new.values.items ≡ length trail.old.values.items) }
 {
     let formula = &lemmas.formula;
-    descend(
-        formula.clauses.as_slice(),
-        lemmas.added.as_slice(),
-        trail,
-        formula.vars,
-        order,
-    )
+    descend(&formula.clauses, &lemmas.added, trail, formula.vars, order)
 }
 
 /// Propagates over the lemmas' clauses.
 fn propagate_all(lemmas: &Lemmas, trail: &mut Trail) -> Result<Option<u32>, AllocError>
     requires trail { IsTrailOf (all_of lemmas.now) trail.old }
     requires size { length trail.old.values.items ≡ 2 * lemmas.now.formula.vars + 2 }
-    requires few { length lemmas.now.formula.clauses.items + length lemmas.now.added.items < 2 ^ 31 }
+    requires few { length lemmas.now.formula.clauses + length lemmas.now.added < 2 ^ 31 }
     ensures trail { OnOk result (IsTrailOf (all_of lemmas.now) trail.new) }
     ensures told { IfOk result (λ o. ToldIs o (all_of lemmas.now) (set_of trail.new.literals.items)) }
     ensures starts { trail.new.starts.items ≡ trail.old.starts.items }
     ensures size { length trail.new.values.items ≡ length trail.old.values.items }
 {
     let formula = &lemmas.formula;
-    propagate(formula.clauses.as_slice(), lemmas.added.as_slice(), trail)
+    propagate(&formula.clauses, &lemmas.added, trail)
 }
 
 /// Analyzes a conflict over the lemmas' clauses.
@@ -77,8 +71,8 @@ fn settle(
     let formula = &lemmas.formula;
     analyze(
         alloc,
-        formula.clauses.as_slice(),
-        lemmas.added.as_slice(),
+        &formula.clauses,
+        &lemmas.added,
         trail,
         conflict,
         seen,
@@ -88,21 +82,16 @@ fn settle(
 }
 
 /// Adds the learned clause, and goes back with the literal that it forces.
-fn finish(
-    alloc: Global,
-    lemmas: &mut Lemmas,
-    trail: &mut Trail,
-    analysis: Analysis,
-) -> Result<Turn, AllocError>
+fn finish(lemmas: &mut Lemmas, trail: &mut Trail, analysis: Analysis) -> Result<Turn, AllocError>
     requires state { IsState lemmas.old trail.old }
-    requires few { length lemmas.old.formula.clauses.items + length lemmas.old.added.items < 2 ^ 31 }
+    requires few { length lemmas.old.formula.clauses + length lemmas.old.added < 2 ^ 31 }
     requires analysis { AnalysisIs (all_of lemmas.old) trail.old.literals.items trail.old.starts.items analysis }
     ensures vars { lemmas.new.formula.vars ≡ lemmas.old.formula.vars }
     ensures clauses { lemmas.new.formula.clauses ≡ lemmas.old.formula.clauses }
     ensures turn { IfOk result (λ turn. TurnIs turn lemmas.old lemmas.new trail.old trail.new) }
 {
     let Analysis { chain, stop } = analysis;
-    let id = match lemmas.try_chain(alloc, chain) {
+    let id = match lemmas.try_chain(chain) {
         Ok(id) => id,
         Err(ChainFault::NoMemory) => return Err(AllocError),
         Err(ChainFault::BadStep) => unreachable!(),
@@ -128,7 +117,7 @@ fn take_turn(
     order: &mut Order,
 ) -> Result<Turn, AllocError>
     requires state { IsState lemmas.old trail.old }
-    requires few { length lemmas.old.formula.clauses.items + length lemmas.old.added.items < 2 ^ 31 }
+    requires few { length lemmas.old.formula.clauses + length lemmas.old.added < 2 ^ 31 }
     requires seen { length seen.old ≡ 2 * lemmas.old.formula.vars + 2 }
     requires lists { Lists seen.old touched.old.items }
     ensures vars { lemmas.new.formula.vars ≡ lemmas.old.formula.vars }
@@ -142,7 +131,7 @@ fn take_turn(
     let levels = order.levels.as_slice();
     let analysis = settle(alloc, lemmas, trail, conflict, seen, touched, levels)?;
     order.bump(touched.as_slice());
-    let turn = finish(alloc, lemmas, trail, analysis)?;
+    let turn = finish(lemmas, trail, analysis)?;
     Ok(turn)
 }
 
@@ -156,10 +145,10 @@ fn conclude(
     levels: &[u32],
 ) -> Result<Solved, AllocError>
     requires state { IsState lemmas trail.old }
-    requires few { length lemmas.formula.clauses.items + length lemmas.added.items < 2 ^ 31 }
+    requires few { length lemmas.formula.clauses + length lemmas.added < 2 ^ 31 }
     requires seen { length seen.old ≡ 2 * lemmas.formula.vars + 2 }
     requires lists { Lists seen.old touched.old.items }
-    ensures { IfOk result (λ s. SolvedIs s lemmas.formula (length lemmas.added.items)) }
+    ensures { IfOk result (λ s. SolvedIs s lemmas.formula (length lemmas.added)) }
 {
     let mut lemmas = lemmas;
     to_bottom(trail);
@@ -167,7 +156,7 @@ fn conclude(
         return Ok(Solved::Spent(lemmas));
     };
     let analysis = settle(alloc, &lemmas, trail, conflict, seen, touched, levels)?;
-    match finish(alloc, &mut lemmas, trail, analysis)? {
+    match finish(&mut lemmas, trail, analysis)? {
         Turn::Refuted => Ok(Solved::Unsat(refute(lemmas))),
         Turn::Learned | Turn::Assigned => unreachable!(),
     }
@@ -184,8 +173,8 @@ fn rounds(
     budget: u32,
 ) -> Result<Solved, AllocError>
     requires state { IsState lemmas trail.old }
-    requires first { lemmas.added.items ≡ [] }
-    requires few { length lemmas.formula.clauses.items + budget < 2 ^ 31 }
+    requires first { lemmas.added ≡ [] }
+    requires few { length lemmas.formula.clauses + budget < 2 ^ 31 }
     requires seen { length seen.old ≡ 2 * lemmas.formula.vars + 2 }
     requires lists { Lists seen.old touched.old.items }
     ensures { IfOk result (λ s. SolvedIs s lemmas.formula budget) }
@@ -213,7 +202,7 @@ fn rounds(
 /// lemmas.
 pub fn solve(alloc: Global, formula: Formula, budget: u32) -> Result<Solved, AllocError>
     requires some { 1 ≤ budget }
-    requires few { length formula.clauses.items + budget < 2 ^ 31 }
+    requires few { length formula.clauses + budget < 2 ^ 31 }
     ensures { IfOk result (λ s. SolvedIs s formula budget) }
 {
     let vars = formula.vars;

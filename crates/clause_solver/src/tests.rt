@@ -3,7 +3,8 @@
 use crate::answer::Solved;
 use crate::solver::solve;
 use lemma_checker::chain::{Chain, ChainFault};
-use lemma_checker::clause::Clause;
+use lemma_checker::clause::are_distinct;
+use lemma_checker::clauses::Clauses;
 use lemma_checker::formula::Formula;
 use lemma_checker::lemmas::Lemmas;
 use lemma_checker::literal::Literal;
@@ -30,14 +31,14 @@ fn literal_of(number: i32) -> Literal {
 }
 
 fn formula_of(alloc: Global, vars: u32, lists: &[Vec<i32>]) -> Result<Option<Formula>, AllocError> {
-    let mut clauses = Vec::new(alloc);
+    let mut clauses = Clauses::new(alloc);
     for list in lists {
         let mut literals = Vec::new(alloc);
         for number in list {
             literals.push(literal_of(*number))?;
         }
-        if let Some(clause) = Clause::check(literals) {
-            clauses.push(clause)?;
+        if are_distinct(literals.as_slice()) {
+            clauses.push(literals.as_slice())?;
         }
     }
     Ok(Formula::check(vars, clauses))
@@ -83,7 +84,7 @@ fn refutes(alloc: Global, formula: Formula, chains: Vec<Chain>) -> Result<bool, 
         if formula.clauses.len() > 100_000 || lemmas.added.len() > 100_000 {
             return Ok(false);
         }
-        match lemmas.try_chain(alloc, chain) {
+        match lemmas.try_chain(chain) {
             Ok(_) => {}
             Err(ChainFault::BadStep) => return Ok(false),
             Err(ChainFault::NoMemory) => return Err(AllocError),

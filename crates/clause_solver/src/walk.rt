@@ -8,7 +8,6 @@ ghost use Rattle.watch_lists.specs.Scans.{IsTrailOf, AreWithin};
 ghost use Rattle.clause_solver.specs.Walks.{IsEnd, IsBetween, IsFound, AreRising};
 
 use lemma_checker::chain::ChainFault;
-use lemma_checker::clause::Clause;
 use lemma_checker::literal::Literal;
 use lemma_checker::resolver::{clause_at, is_marked, resolve};
 use std::alloc::AllocError;

@@ -1,6 +1,9 @@
 -- Elements of lists by their place.
-use Rattle.std.proofs.Common.{◌≡◌, ℕ, zero, suc, ◌+◌, ◌<◌, ◌⊎◌, List, [], ◌∷◌, ◌++◌, length, Some, slice_get, refl, ap, ◌∙◌, inl, inr, arith}
-use Rattle.std.proofs.lemmas.Option.{slice_get_within}
+use Rattle.std.proofs.Common.{◌≡◌, ℕ, zero, suc, ◌+◌, ◌<◌, ◌⊎◌, Bool, true, false, List, [], ◌∷◌, ◌++◌, length, take, get_or, Some, slice_get, refl, ap, ◌∙◌, inl, inr, arith}
+use Rattle.std.specs.List.{list_all, list_any}
+use Rattle.std.proofs.lemmas.Bool.{and_from}
+use Rattle.std.proofs.lemmas.List.Folds.{list_all_more, list_all_at, list_any_more, list_any_at}
+use Rattle.std.proofs.lemmas.Option.{slice_get_within, get_or_from_slice_get}
 
 -- the element of two lists joined is of the first
 pub get_left : {X : Type 0} (xs ys : List X) (i : ℕ) → i < length xs → slice_get (xs ++ ys) i ≡ slice_get xs i
@@ -34,3 +37,18 @@ pub get_either : {X : Type 0} (xs ys : List X) (i : ℕ) (z : X) → slice_get (
 get_either [] ys i z is = inr (i, is, omega arith)
 get_either (x ∷ xs) ys zero z is = inl is
 get_either (x ∷ xs) ys (suc i) z is = elim (get_either xs ys i z is) [ inl old ↦ inl old | inr e ↦ inr (e.0, e.1, omega (arith, e.2)) ]
+
+-- a test of all elements, or of some element, at the one that is read
+pub all_read_more : {X : Type 0} (p : X → Bool) (xs : List X) (i : ℕ) (x : X) → slice_get xs i ≡ Some x → list_all p (take i xs) ≡ true → p x ≡ true → list_all p (take (i + 1) xs) ≡ true
+all_read_more p xs i x is before here = list_all_more p xs i x (slice_get_within xs i x is) ∙ and_from _ _ before (ap p (get_or_from_slice_get xs i x x is) ∙ here)
+
+pub all_read_false : {X : Type 0} (p : X → Bool) (xs : List X) (i : ℕ) (x : X) → slice_get xs i ≡ Some x → p x ≡ false → list_all p xs ≡ false
+all_read_false p xs i x is here = list_all_at p xs i x (slice_get_within xs i x is) (ap p (get_or_from_slice_get xs i x x is) ∙ here)
+
+pub any_read_more : {X : Type 0} (p : X → Bool) (xs : List X) (i : ℕ) (x : X) → slice_get xs i ≡ Some x → list_any p (take i xs) ≡ false → p x ≡ false → list_any p (take (i + 1) xs) ≡ false
+any_read_more p xs i x is before here =
+    let last : p (get_or xs i x) ≡ false = ap p (get_or_from_slice_get xs i x x is) ∙ here in
+    list_any_more p xs i x (slice_get_within xs i x is) ∙ rw (before, last) refl
+
+pub any_read_true : {X : Type 0} (p : X → Bool) (xs : List X) (i : ℕ) (x : X) → slice_get xs i ≡ Some x → p x ≡ true → list_any p xs ≡ true
+any_read_true p xs i x is here = list_any_at p xs i x (slice_get_within xs i x is) (ap p (get_or_from_slice_get xs i x x is) ∙ here)

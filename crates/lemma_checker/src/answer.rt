@@ -14,7 +14,7 @@ use std::vec::Vec;
 pub struct Refutation {
     pub formula: Formula,
     pub chains: Vec<Chain>,
-    pub ghost refuted: { ReachesEmpty formula.clauses.items (map link chains.items) },
+    pub ghost refuted: { ReachesEmpty formula.clauses (map link chains.items) },
 }
 
 /// A formula with values that satisfy it, one per variable: the first is that of variable 1.
@@ -23,5 +23,5 @@ pub struct Satisfied {
     pub formula: Formula,
     pub values: Vec<bool>,
     pub ghost each: { vec_len values ≡ formula.vars },
-    pub ghost met: { Solves (assigned values.items) formula.clauses.items },
+    pub ghost met: { Solves (assigned values.items) formula.clauses },
 }

@@ -82,6 +82,11 @@ impl Clauses {
         }
     }
 
+    /// Where its memory comes from.
+    pub fn allocator(&self) -> Global {
+        *self.literals.allocator()
+    }
+
     /// The number of clauses.
     pub fn len(&self) -> usize
         ensures { result ≡ length self.now }

@@ -6,7 +6,7 @@ ghost use Rattle.lemma_checker.specs.Chains.{AreDerived};
 ghost use Rattle.lemma_checker.specs.Checker.{Lists, link};
 
 use crate::chain::Chain;
-use crate::clause::Clause;
+use crate::clauses::Clauses;
 use crate::formula::Formula;
 use crate::literal::Literal;
 use std::vec::Vec;
@@ -16,12 +16,13 @@ use std::vec::Vec;
 #[derive(Debug, Drop)]
 pub struct Lemmas {
     pub formula: Formula,
-    pub added: Vec<Clause>,
+    pub added: Clauses,
     pub chains: Vec<Chain>,
     pub(crate) marks: Vec<bool>,
     pub(crate) touched: Vec<Literal>,
-    pub ghost over: { AreOver formula.vars added.items },
-    pub ghost derived: { AreDerived formula.clauses.items added.items (map link chains.items) },
+    pub(crate) clause: Vec<Literal>,
+    pub ghost over: { AreOver formula.vars added },
+    pub ghost derived: { AreDerived formula.clauses added (map link chains.items) },
     ghost lists: { Lists marks.items touched.items },
     ghost room: { length marks.items ≤ 2 * formula.vars + 2 },
 }

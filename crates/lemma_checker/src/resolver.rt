@@ -11,13 +11,14 @@ ghost use Rattle.lemma_checker.specs.Chains.{clash, clashes, resolved, numbered,
 ghost use Rattle.lemma_checker.specs.Checker.{Lists, AreBelow, AreAllBelow, with_literal, joined};
 
 use crate::chain::{Chain, ChainFault};
-use crate::clause::{Clause, has_number};
+use crate::clause::has_number;
+use crate::clauses::Clauses;
 use crate::literal::Literal;
-use std::alloc::{AllocError, Global};
+use std::alloc::AllocError;
 use std::vec::Vec;
 
 /// The clause of this number, from 1: the formula's clauses first, then the added ones.
-pub fn clause_at<'a>(formula: &'a [Clause], added: &'a [Clause], id: u32) -> Option<&'a Clause>
+pub fn clause_at<'a>(formula: &'a Clauses, added: &'a Clauses, id: u32) -> Option<&'a [Literal]>
     ensures { option_copied result ≡ numbered (formula.now ++ added.now) id }
 {
     if id == 0 {
@@ -123,8 +124,8 @@ pub fn resolve(
 
 /// Resolves the marked set with the clauses of these numbers, one after another, each on its pivot.
 pub fn follow(
-    formula: &[Clause],
-    added: &[Clause],
+    formula: &Clauses,
+    added: &Clauses,
     ids: &[u32],
     pivots: &[u32],
     marks: &mut [bool],
@@ -143,7 +144,7 @@ pub fn follow(
         let Some(clause) = clause_at(formula, added, ids[i]) else {
             return Err(ChainFault::BadStep);
         };
-        resolve(marks, touched, clause.as_slice(), pivots[i])?;
+        resolve(marks, touched, clause, pivots[i])?;
     }
     if ids.len() < pivots.len() {
         return Err(ChainFault::BadStep);
@@ -171,35 +172,41 @@ pub fn clear(marks: &mut [bool], touched: &mut Vec<Literal>)
     touched.clear();
 }
 
-/// The marked literals, each once; their marks are taken away.
-fn collect(alloc: Global, marks: &mut [bool], touched: &[Literal]) -> Result<Clause, AllocError>
+/// Makes the clause of the marked literals, each once; their marks are taken away.
+fn collect(
+    marks: &mut [bool],
+    touched: &[Literal],
+    clause: &mut Vec<Literal>,
+) -> Result<(), AllocError>
     requires lists { Lists marks.old touched.now }
     ensures lists { Lists marks.new touched.now }
-    ensures set { IfOk result (λ c. set_of c ≡ at marks.old) }
+    ensures set { OnOk result (set_of clause.new.items ≡ at marks.old) }
+    ensures distinct { OnOk result (AreDistinct clause.new.items) }
 {
-    let mut literals = Vec::new(alloc);
+    clause.clear();
     for literal in touched {
         if is_marked(marks, literal.0 as usize) {
-            literals.push(*literal)?;
+            clause.push(*literal)?;
             unmark(marks, literal.0 as usize);
         }
     }
-    Ok(Clause::of(literals))
+    Ok(())
 }
 
-/// The clause that the chain gives.
+/// Makes the clause that the chain gives.
 fn run_chain(
-    alloc: Global,
-    formula: &[Clause],
-    added: &[Clause],
+    formula: &Clauses,
+    added: &Clauses,
     chain: &Chain,
     marks: &mut [bool],
     touched: &mut Vec<Literal>,
-) -> Result<Clause, ChainFault>
+    clause: &mut Vec<Literal>,
+) -> Result<(), ChainFault>
     requires below { AreAllBelow (length marks.old) (formula.now ++ added.now) }
     requires lists { Lists marks.old touched.old.items }
     ensures lists { Lists marks.new touched.new.items }
-    ensures set { IfOk result (λ c. chain_result (formula.now ++ added.now) chain.now.ids.items chain.now.pivots.items ≡ Some (set_of c)) }
+    ensures set { OnOk result (chain_result (formula.now ++ added.now) chain.now.ids.items chain.now.pivots.items ≡ Some (set_of clause.new.items)) }
+    ensures distinct { OnOk result (AreDistinct clause.new.items) }
     ensures bad { result ≡ Err BadStep → chain_result (formula.now ++ added.now) chain.now.ids.items chain.now.pivots.items ≡ None }
 {
     let ids = chain.ids.as_slice();
@@ -210,7 +217,7 @@ fn run_chain(
         return Err(ChainFault::BadStep);
     };
     clear(marks, touched);
-    merge(marks, touched, first.as_slice())?;
+    merge(marks, touched, first)?;
     follow(
         formula,
         added,
@@ -219,8 +226,8 @@ fn run_chain(
         marks,
         touched,
     )?;
-    let clause = collect(alloc, marks, touched.as_slice())?;
-    Ok(clause)
+    collect(marks, touched.as_slice(), clause)?;
+    Ok(())
 }
 
 /// Makes the table at least so long.
@@ -235,25 +242,26 @@ fn grow(marks: &mut Vec<bool>, touched: &[Literal], size: usize) -> Result<(), A
     Ok(())
 }
 
-/// The clause that the chain gives, in a table that is made long enough first.
+/// Makes the clause that the chain gives, with a table of marks that is made long enough first.
 pub fn derive(
-    alloc: Global,
-    formula: &[Clause],
-    added: &[Clause],
+    formula: &Clauses,
+    added: &Clauses,
     chain: &Chain,
     size: usize,
     marks: &mut Vec<bool>,
     touched: &mut Vec<Literal>,
-) -> Result<Clause, ChainFault>
+    clause: &mut Vec<Literal>,
+) -> Result<(), ChainFault>
     requires below { AreAllBelow size (formula.now ++ added.now) }
     requires lists { Lists marks.old.items touched.old.items }
     requires room { length marks.old.items ≤ size }
     ensures lists { Lists marks.new.items touched.new.items }
     ensures room { length marks.new.items ≤ size }
-    ensures set { IfOk result (λ c. chain_result (formula.now ++ added.now) chain.now.ids.items chain.now.pivots.items ≡ Some (set_of c)) }
+    ensures set { OnOk result (chain_result (formula.now ++ added.now) chain.now.ids.items chain.now.pivots.items ≡ Some (set_of clause.new.items)) }
+    ensures distinct { OnOk result (AreDistinct clause.new.items) }
     ensures bad { result ≡ Err BadStep → chain_result (formula.now ++ added.now) chain.now.ids.items chain.now.pivots.items ≡ None }
 {
     grow(marks, touched.as_slice(), size)?;
-    let clause = run_chain(alloc, formula, added, chain, marks.as_mut_slice(), touched)?;
-    Ok(clause)
+    run_chain(formula, added, chain, marks.as_mut_slice(), touched, clause)?;
+    Ok(())
 }

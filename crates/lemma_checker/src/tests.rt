@@ -2,7 +2,7 @@
 
 use crate::chain::{Chain, ChainFault};
 use crate::checker::model_of;
-use crate::clause::{Clause, are_distinct};
+use crate::clause::{are_distinct, has_number};
 use crate::clauses::Clauses;
 use crate::formula::Formula;
 use crate::lemmas::Lemmas;
@@ -40,19 +40,16 @@ const fn chain_case(
     Case { ids, pivots, gives }
 }
 
-fn clause_of(alloc: Global, numbers: &[u32]) -> Result<Option<Clause>, AllocError> {
-    let mut literals = Vec::new(alloc);
-    for number in numbers {
-        literals.push(Literal(*number))?;
-    }
-    Ok(Clause::check(literals))
+fn literals_of(alloc: Global, numbers: &[u32]) -> Result<Vec<Literal>, AllocError> {
+    numbers.iter().map(|number| Literal(*number)).collect(alloc)
 }
 
 fn formula_of(alloc: Global, vars: u32, lists: &[&[u32]]) -> Result<Option<Formula>, AllocError> {
-    let mut clauses = Vec::new(alloc);
+    let mut clauses = Clauses::new(alloc);
     for list in lists {
-        if let Some(clause) = clause_of(alloc, list)? {
-            clauses.push(clause)?;
+        let literals = literals_of(alloc, list)?;
+        if are_distinct(literals.as_slice()) {
+            clauses.push(literals.as_slice())?;
         }
     }
     Ok(Formula::check(vars, clauses))
@@ -68,7 +65,7 @@ fn try_case(alloc: Global, lemmas: &mut Lemmas, case: &Case) -> Result<Option<u3
     if formula.clauses.len() > 100 || lemmas.added.len() > 100 {
         return Ok(None);
     }
-    match lemmas.try_chain(alloc, chain) {
+    match lemmas.try_chain(chain) {
         Ok(number) => Ok(Some(number)),
         Err(ChainFault::BadStep) => Ok(None),
         Err(ChainFault::NoMemory) => Err(AllocError),
@@ -76,8 +73,8 @@ fn try_case(alloc: Global, lemmas: &mut Lemmas, case: &Case) -> Result<Option<u3
 }
 
 /// Whether the clause has just these literals.
-fn is_just(clause: &Clause, numbers: &[u32]) -> bool {
-    clause.as_slice().len() == numbers.len() && numbers.iter().all(|n| clause.has(Literal(*n)))
+fn is_just(clause: &[Literal], numbers: &[u32]) -> bool {
+    clause.len() == numbers.len() && numbers.iter().all(|n| has_number(clause, *n as usize))
 }
 
 /// Whether the chain gives what it should, under the next number, or is refused and adds nothing.
@@ -86,7 +83,7 @@ fn is_right(alloc: Global, lemmas: &mut Lemmas, case: &Case) -> Result<bool, All
     let number = try_case(alloc, lemmas, case)?;
     match (number, case.gives) {
         (None, None) => Ok(lemmas.added.len() == before && lemmas.chains.len() == before),
-        (Some(number), Some(gives)) => match lemmas.added.as_slice().last() {
+        (Some(number), Some(gives)) => match lemmas.added.get(before) {
             Some(clause) => Ok(number as usize == 10 + before && is_just(clause, gives)),
             None => Ok(false),
         },
@@ -176,7 +173,8 @@ fn values_satisfy_or_do_not(rt: HostRuntime) -> Result<(), Fail> {
         formula_of(alloc, 1, &lists)?.is_none(),
         "a literal of no variable"
     );
-    assert!(rt; clause_of(alloc, &[2, 4, 2])?.is_none(), "a literal twice");
+    let twice = literals_of(alloc, &[2, 4, 2])?;
+    assert!(rt; !are_distinct(twice.as_slice()), "a literal twice");
     Ok(())
 }
 
@@ -195,7 +193,7 @@ fn a_chain_that_resolves_is_added(rt: HostRuntime) -> Result<(), Fail> {
         ids: vec![in alloc; 1]?,
         pivots: Vec::new(alloc),
     };
-    assert_eq!(rt; lemmas.resolve_chain(alloc, chain)?, 10);
+    assert_eq!(rt; lemmas.resolve_chain(chain)?, 10);
     Ok(())
 }
 

@@ -8,7 +8,7 @@ ghost use Rattle.watch_lists.specs.declared.scan.Swept.TheVariants.{More};
 ghost use Rattle.watch_lists.specs.Scans.{StatusIs, SweptIs, ToldIs, IsTrailOf, AreWithin};
 
 use crate::trail::Trail;
-use lemma_checker::clause::Clause;
+use lemma_checker::clauses::Clauses;
 use lemma_checker::literal::Literal;
 use lemma_checker::resolver::{clause_at, is_marked};
 use std::alloc::AllocError;
@@ -64,7 +64,7 @@ pub fn status_of(clause: &[Literal], values: &[bool]) -> Status
 }
 
 /// Looks at each clause once, in order, and adds the literals that are forced.
-fn sweep(formula: &[Clause], added: &[Clause], trail: &mut Trail) -> Result<Swept, AllocError>
+fn sweep(formula: &Clauses, added: &Clauses, trail: &mut Trail) -> Result<Swept, AllocError>
     requires trail { IsTrailOf (formula.now ++ added.now) trail.old }
     requires over { AreWithin (length trail.old.values.items) (formula.now ++ added.now) }
     requires few { length formula.now + length added.now < 2 ^ 32 - 1 }
@@ -83,7 +83,7 @@ fn sweep(formula: &[Clause], added: &[Clause], trail: &mut Trail) -> Result<Swep
         let Some(clause) = clause_at(formula, added, number) else {
             unreachable!();
         };
-        match status_of(clause.as_slice(), trail.values.as_slice()) {
+        match status_of(clause, trail.values.as_slice()) {
             Status::Quiet => {}
             Status::False => return Ok(Swept::Conflict(number)),
             Status::Unit(literal) => {
@@ -98,8 +98,8 @@ fn sweep(formula: &[Clause], added: &[Clause], trail: &mut Trail) -> Result<Swep
 /// Adds what unit propagation gives, by looking at all clauses again and again: a clause's number
 /// where all its literals are false.
 pub fn propagate(
-    formula: &[Clause],
-    added: &[Clause],
+    formula: &Clauses,
+    added: &Clauses,
     trail: &mut Trail,
 ) -> Result<Option<u32>, AllocError>
     requires trail { IsTrailOf (formula.now ++ added.now) trail.old }

@@ -19,5 +19,5 @@ returns-in_default c =
       news = c.requires.state.news;
       proper = λ i d is. new_proper _ d (c.requires.state.news.each i d is);
       quiet = settled_quiet _ _ settled;
-      small = few_new c.args.lemmas.formula.vars c.args.lemmas.formula.clauses.items c.args.lemmas.added.items c.requires.state.news c.args.lemmas.over;
+      small = few_new c.args.lemmas.formula.vars c.args.lemmas.formula.clauses c.args.lemmas.added c.requires.state.news c.args.lemmas.over;
     }

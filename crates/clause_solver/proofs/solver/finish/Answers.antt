@@ -18,7 +18,7 @@ push-requires c =
 pub returns-in-None-clause-turn : goal.returns-in-None-clause-turn
 returns-in-None-clause-turn c =
     let more = c.in-Ok.ensures.added in
-    rw (c.try_chain.ensures.clauses, more.added) (empty_last c.args.lemmas.now.formula.clauses.items c.args.lemmas.now.added.items more.clause c.requires.analysis.set (same_Some _ _ (sym more.result ∙ c.requires.analysis.chain)) (rw c.in-None.is at c.requires.analysis.stop))
+    rw (c.try_chain.ensures.clauses, more.added) (empty_last c.args.lemmas.now.formula.clauses c.args.lemmas.now.added more.clause c.requires.analysis.set (same_Some _ _ (sym more.result ∙ c.requires.analysis.chain)) (rw c.in-None.is at c.requires.analysis.stop))
 
 pub returns-in_ok-push-in-Some-clause-turn : goal.returns-in_ok-push-in-Some-clause-turn
 returns-in_ok-push-in-Some-clause-turn c =
@@ -30,8 +30,8 @@ returns-in_ok-push-in-Some-clause-turn c =
     let long = c.push.ensures.size ∙ c.cut.ensures.size in
     let within = slice_get_within _ _ _ stop.is in
     let place_is = slice_get_read c.args.trail.now.starts.items (length c.args.trail.now.starts.items) c.in-Some.stop.level c.index-place.result.now refl within c.index-place.ensures in
-    let count : length (c.args.lemmas.now.formula.clauses.items ++ c.args.lemmas.now.added.items) ≡ length c.args.lemmas.now.formula.clauses.items + length c.args.lemmas.now.added.items = length-append c.args.lemmas.now.formula.clauses.items c.args.lemmas.now.added.items in
-    let one : length c.try_chain.new.self.added.items ≡ length c.args.lemmas.now.added.items + 1 = ap length more.added ∙ length_push c.args.lemmas.now.added.items more.clause in
+    let count : length (c.args.lemmas.now.formula.clauses ++ c.args.lemmas.now.added) ≡ length c.args.lemmas.now.formula.clauses + length c.args.lemmas.now.added = length-append c.args.lemmas.now.formula.clauses c.args.lemmas.now.added in
+    let one : length c.try_chain.new.self.added ≡ length c.args.lemmas.now.added + 1 = ap length more.added ∙ length_push c.args.lemmas.now.added more.clause in
     record {
       state = record {
         of = rw (long, c.in_ok-push-in-Some.ensures.literals, c.in_ok-push-in-Some.ensures.reasons, c.in_ok-push-in-Some.ensures.values, c.push.ensures.starts, c.cut.ensures.literals, c.cut.ensures.reasons, c.cut.ensures.starts, c.try_chain.ensures.clauses, more.added)

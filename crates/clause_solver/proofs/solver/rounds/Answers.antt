@@ -1,4 +1,5 @@
-use Rattle.std.proofs.Common.{ap, ◌∙◌, ◌+◌, ℕ}
+use Rattle.std.proofs.Common.{ap, ◌∙◌, ◌+◌, ℕ, arith}
+use Rattle.clause_solver.proofs.AnswerLemmas.{solved_same}
 use Rattle.clause_solver.proofs.solver.rounds.Goals as goal
 use Rattle.clause_solver.proofs.solver.rounds.Goals.{then-restarts, else-restarts}
 
@@ -20,3 +21,8 @@ loop-turn-preserved c =
       clauses = c.take_turn.ensures.clauses ∙ i.clauses;
       lists = c.in_ok-take_turn.ensures.lists;
     }
+
+pub returns : goal.returns
+returns c =
+    let i = c.loop-turn.invariant in
+    solved_same _ _ _ _ _ i.vars i.clauses (omega (arith, i.count)) c.in_ok-solved.ensures

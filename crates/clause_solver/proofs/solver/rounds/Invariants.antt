@@ -6,7 +6,7 @@ use Rattle.clause_solver.proofs.solver.rounds.Given as goal
 abbrev pub invariant-loop-turn : goal.invariant-loop-turn
 invariant-loop-turn l = record {
   state : IsState l.lemmas l.trail;
-  count : length l.lemmas.added.items ≡ l.turn;
+  count : length l.lemmas.added ≡ l.turn;
   vars : l.lemmas.formula.vars ≡ l.fn.lemmas.formula.vars;
   clauses : l.lemmas.formula.clauses ≡ l.fn.lemmas.formula.clauses;
   lists : Lists l.seen l.touched.items;

@@ -16,15 +16,15 @@ returns-in_err-resolve-clause-bad c = λ e.
     let p = err_from_is_err_and c.from_residual.result c.from_residual.ensures.1 in
     sym c.loop-i.invariant.rest ∙ chain_no_step (c.args.formula.now ++ c.args.added.now) (at c.loop-i.marks) c.args.ids.now c.args.pivots.now c.loop-i.i c.in-Some.clause.now (omega arith) (omega arith)
     (sym c.clause_at.ensures ∙ ap option_copied c.in-Some.is)
-    (rw c.as_slice.ensures.value at (c.in_err-resolve.ensures.bad (ap Err (sym p.2) ∙ (sym p.1 ∙ e))))
+    (c.in_err-resolve.ensures.bad (ap Err (sym p.2) ∙ (sym p.1 ∙ e)))
 
 pub loop-i-preserved : goal.loop-i-preserved
 loop-i-preserved c = record {
   lists = c.resolve.ensures.lists;
   rest = sym (chain_step (c.args.formula.now ++ c.args.added.now) (at c.loop-i.marks) (at c.resolve.new.marks) c.args.ids.now c.args.pivots.now c.loop-i.i c.in-Some.clause.now (omega arith) (omega arith)
       (sym c.clause_at.ensures ∙ ap option_copied c.in-Some.is)
-      (rw c.as_slice.ensures.value at c.in_ok-resolve.ensures.can)
-      (rw c.as_slice.ensures.value at c.in_ok-resolve.ensures.set)) ∙ c.loop-i.invariant.rest;
+      c.in_ok-resolve.ensures.can
+      c.in_ok-resolve.ensures.set) ∙ c.loop-i.invariant.rest;
 }
 
 pub returns-then-ids-pivots-clause-bad : goal.returns-then-ids-pivots-clause-bad

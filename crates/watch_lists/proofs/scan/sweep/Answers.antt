@@ -14,7 +14,7 @@ loop-number-preserved c =
     let at_c = sym c.clause_at.ensures ∙ ap option_copied c.in-Some.is in
     elim c.match-status_of.branch [
       | in-Quiet w ↦
-          let quiet = rw (c.as_slice.ensures.value, c.as_slice-in-loop-number.ensures.value) at w.in-Quiet.ensures in
+          let quiet = rw c.as_slice.ensures.value at w.in-Quiet.ensures in
           rw (w.trail-is, w.more-is) (record {
             trail = i.trail;
             size = i.size;
@@ -26,7 +26,7 @@ loop-number-preserved c =
             quiet = λ e. quiet_next (c.args.formula.now ++ c.args.added.now) _ c.loop-number.number _ at_c (i.quiet e) quiet;
           })
       | in-Unit+in_ok-push-in-Unit w ↦
-          let forced = rw (c.as_slice.ensures.value, c.as_slice-in-loop-number.ensures.value) at w.in-Unit.ensures in
+          let forced = rw c.as_slice.ensures.value at w.in-Unit.ensures in
           let few : c.loop-number.number ≤ length (c.args.formula.now ++ c.args.added.now) = omega (arith, length-append c.args.formula.now c.args.added.now) in
           let u : IsUnitNumber (c.args.formula.now ++ c.args.added.now) c.loop-number.number w.in-Unit.literal.0 (at c.loop-number.trail.values.items) = record { few = few; clause = c.in-Some.clause.now; is = at_c; forced = forced } in
           let within : AreWithin (length c.loop-number.trail.values.items) (c.args.formula.now ++ c.args.added.now) = rw i.size c.requires.over in

@@ -6,7 +6,7 @@ use Rattle.lemma_checker.proofs.formula.Formula.check.Goals.{else-vars-lt2147483
 pub invariant_of-result : goal.invariant_of-result
 invariant_of-result c = record {
   small = c.if-vars-lt2147483648.true;
-  over = all_over _ _ ((rw c.as_slice.ensures.value at (sym c.are_over.ensures)) ∙ c.if-are_over.true);
+  over = all_over _ _ (sym c.are_over.ensures ∙ c.if-are_over.true);
 }
 
 pub returns-else-vars-lt2147483648-clause-exactly : goal.returns-else-vars-lt2147483648-clause-exactly
@@ -14,7 +14,7 @@ returns-else-vars-lt2147483648-clause-exactly c = (
   λ e. absurd (true≢false (sym e)),
   λ both. elim c.else-vars-lt2147483648.branch [
     | else-vars-lt2147483648-via-then-vars-lt2147483648+else-are_over w ↦
-        absurd (true≢false (sym (over_all _ _ both.1) ∙ ((rw w.as_slice.ensures.value at (sym w.are_over.ensures)) ∙ w.if-are_over.false)))
+        absurd (true≢false (sym (over_all _ _ both.1) ∙ (sym w.are_over.ensures ∙ w.if-are_over.false)))
     | else-vars-lt2147483648-via-else-vars-lt2147483648 w ↦ absurd (omega (arith, both.0))
   ],
 )

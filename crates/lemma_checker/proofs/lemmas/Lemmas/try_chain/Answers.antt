@@ -3,11 +3,11 @@ use Rattle.lemma_checker.proofs.ChainLemmas.{all_below, over_join, over_push, ch
 use Rattle.lemma_checker.proofs.lemmas.Lemmas.try_chain.Goals as goal
 
 pub derive-requires-clause-below : goal.derive-requires-clause-below
-derive-requires-clause-below c = rw (c.as_slice.ensures.value, c.as_slice-2.ensures.value) (all_below _ _ _ c.args.self.now.formula.over c.args.self.now.over)
+derive-requires-clause-below c = all_below _ _ _ c.args.self.now.formula.over c.args.self.now.over
 
 pub invariant_of-self-2 : goal.invariant_of-self-2
 invariant_of-self-2 c =
-    let given = rw (c.as_slice.ensures.value, c.as_slice-2.ensures.value) at c.in_ok-clause.ensures.set in
+    let given = rw (← c.as_slice.ensures.value) at c.in_ok-derive.ensures.set in
     elim (grown _ _ _ _ _ _ _ c.append.ensures.added c.append.ensures.chains c.append.ensures.err) [
       | inl same ↦ record {
         over = rw same.0 c.args.self.now.over;
