@@ -1,5 +1,5 @@
 -- The solver's answers about a formula.
-use Rattle.std.proofs.Common.{◌≡◌, ℕ, ◌<◌, ◌≤◌, ◌^◌, ◌∙◌, subst, arith}
+use Rattle.std.proofs.Common.{◌≡◌, ℕ, ◌<◌, ◌^◌, ◌∙◌, subst, arith}
 use Rattle.lemma_checker.specs.declared.formula.Formula.{Formula}
 use Rattle.clause_solver.specs.declared.answer.Solved.{Solved}
 use Rattle.clause_solver.specs.declared.answer.Solved.TheVariants as solved
