@@ -3,6 +3,7 @@ use Rattle.std.specs.Prelude.{◌≡◌, ℕ, Bool, true, false, Option, Some, N
 use Rattle.std.specs.Str.{bytes_eq}
 use Rattle.tool_edge.specs.Files.{Files}
 use Rattle.trace_replay.specs.declared.block.Block.{Block}
+use Rattle.trace_replay.specs.Blocks.{first_block}
 use Rattle.trace_replay.specs.declared.joint.Difference.{Difference}
 use Rattle.prove_top.specs.declared.gather.Kind.{Kind}
 use Rattle.prove_top.specs.declared.gather.Kind.TheVariants.{Description, Ports, Verilog}
@@ -49,7 +50,7 @@ abbrev pub block_with : Option ℕ → Option Drivers → Bool → Result Block 
 block_with None drivers ports = Err Description
 block_with (Some reset) None ports = Err Verilog
 block_with (Some reset) (Some drivers) false = Err Ports
-block_with (Some reset) (Some drivers) true = Ok (record { reset = reset; read_data = drivers.read_data; next = drivers.next })
+block_with (Some reset) (Some drivers) true = Ok (first_block reset drivers.read_data drivers.next)
 
 abbrev pub block_of : List ℕ → List ℕ → List ℕ → Result Block Kind
 block_of rdl ports verilog = block_with (reset_of rdl) (drivers_of verilog) (bytes_eq ports PORTS.now)

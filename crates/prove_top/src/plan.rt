@@ -103,11 +103,8 @@ fn block_of(
     if ports != PORTS {
         return Ok(Err(Kind::Ports));
     }
-    Ok(Ok(Block {
-        reset,
-        read_data: drivers.read_data,
-        next: drivers.next,
-    }))
+    let block = Block::new(alloc, reset, drivers.read_data, drivers.next)?;
+    Ok(Ok(block))
 }
 
 /// The text of the trace of a run, up to this edge.
@@ -127,7 +124,7 @@ fn run_report(alloc: Global, block: &Block, seed: u64) -> Result<Report, AllocEr
     ensures kind { IfOk result IsAnswer }
 {
     let run = sampled_run(alloc, block, seed)?;
-    match first_difference(block, run.register, &run.wires) {
+    match first_difference(alloc, block, run.register, &run.wires)? {
         Some((edge, difference)) => {
             let trace = cut_trace(alloc, block, &run, edge)?;
             Ok(Report::Refuted(edge, difference, trace))

@@ -74,6 +74,6 @@ pub(crate) fn sampled_run(alloc: Global, block: &Block, seed: u64) -> Result<Run
     let bits = drawn_bits(alloc, seed, REGISTER_BITS + CHOICE_BITS * EDGES)?;
     let register = number_of_places(&bits[..REGISTER_BITS]) as u8;
     let choices = choices(alloc, &bits)?;
-    let wires = run_wires(alloc, block, start(block, register), &choices)?;
+    let wires = run_wires(alloc, block, start(alloc, block, register)?, &choices)?;
     Ok(Run { register, wires })
 }

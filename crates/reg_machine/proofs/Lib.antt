@@ -2,4 +2,5 @@ pub mod BitMoves
 pub mod NextLemmas
 pub mod OneFieldLemmas
 pub mod Shows
+pub mod StateLemmas
 pub mod Views

@@ -9,9 +9,10 @@ use Rattle.field_policies.specs.declared.field.Field.{Field}
 use Rattle.field_policies.specs.declared.map.RegMap.{RegMap}
 use Rattle.field_policies.specs.Bits.{AreBitsOf}
 use Rattle.reg_machine.specs.Conditions.{AreValues, IsState}
-use Rattle.reg_machine.specs.Machines.{IsReset, IsNext}
 use Rattle.reg_machine.specs.Steps.{Edge}
-use Rattle.reg_machine.specs.Nexts.{AreNext, IsNextState}
+use Rattle.reg_machine.specs.Nexts.{AreNext, IsNextState, IsReset}
+use Rattle.reg_machine.specs.States.{State, next_state, next_value, value_in, used_in, known_in}
+use Rattle.reg_machine.proofs.StateLemmas.{is_for_each, number_is, same_state, state_with}
 
 pub next_init : (e : Edge) (values : List ℕ) (used known : List Bool) (values' : List ℕ) → AreNext e values used known 0 values' used known
 next_init e values used known values' = record { done = λ k lt. absurd (omega (arith, lt)); used_left = λ k h. refl; known_left = λ k h. refl }
@@ -64,8 +65,8 @@ reset_fits f h = fits f.wire
     fits true = pow_pos f.width
     fits false = h
 
-pub reset_state : (map : RegMap) (values : List ℕ) (used known : List Bool) → IsReset map.fields.items values used known → IsState map.fields.items values used known
-reset_state m values used known r = record {
+pub reset_fits_map : (map : RegMap) (values : List ℕ) (used known : List Bool) → IsReset map.fields.items values used known → IsState map.fields.items values used known
+reset_fits_map m values used known r = record {
   values_of = record {
     one_each = ap length r.values_are ∙ length-map m.fields.items _;
     fit = λ n v f at here. let is : v ≡ cond f.wire 0 f.reset = mapped_at (λ (f : Field). cond f.wire 0 f.reset) m.fields.items n f v at (ap (λ xs. slice_get xs n) (sym r.values_are) ∙ here) in
@@ -75,19 +76,25 @@ reset_state m values used known r = record {
   known_of = ap length r.known_are ∙ length-map m.fields.items _;
 }
 
--- the new values are those of every field
-pub next_all : (e : Edge) (values : List ℕ) (used known : List Bool) (next values' : List ℕ) (used' known' : List Bool) → length values ≡ length e.view.fields → values' ≡ take (length values) next
-    → AreNext e values used known (length e.view.fields) next used' known' → IsNext e values used known values' used' known'
-next_all e values used known next values' used' known' len are a = record {
-  stored = λ n f at w. let lt : n < length e.view.fields = slice_get_within e.view.fields n f at in
-      subst (AreBitsOf f.width _) (sym (here n lt)) ((a.done n lt f at).stored w);
-  wires = λ n f at w. let lt : n < length e.view.fields = slice_get_within e.view.fields n f at in here n lt ∙ (a.done n lt f at).wire w;
-  flags = λ n f at. (a.done n (slice_get_within e.view.fields n f at) f at).flag;
-  knowns = λ n f at. (a.done n (slice_get_within e.view.fields n f at) f at).knows;
-}
+-- a wire's entry or a stored field's
+either : (b : Bool) (v w x : ℕ) → (b ≡ true → v ≡ w) → (b ≡ false → v ≡ x) → v ≡ cond b w x
+either true v w x p q = p refl
+either false v w x p q = q refl
+
+-- the lists of every field's next state are the next state
+pub next_all : (e : Edge) (s : State) (next values' : List ℕ) (used' known' : List Bool) → length s.values ≡ length e.view.fields → length s.values ≤ length next → values' ≡ take (length s.values) next
+    → length used' ≡ length e.view.fields → length known' ≡ length e.view.fields
+    → AreNext e s.values s.used s.known (length e.view.fields) next used' known' → state_with values' used' known' ≡ next_state e s
+unfolding next_state
+next_all e s next values' used' known' len room are lu lk a = same_state _ _ _ _ _ _
+    (is_for_each (next_value e s) 0 e.view.fields values' (ap length are ∙ length-take-le (length s.values) next room ∙ len)
+    (λ n f at. let lt : n < length e.view.fields = slice_get_within e.view.fields n f at in
+        here n lt ∙ either f.wire (slice_index next n) _ _ ((a.done n lt f at).wire) (λ w. number_is f.width _ _ ((a.done n lt f at).stored w))))
+    (is_for_each _ false e.view.fields used' lu (λ n f at. (a.done n (slice_get_within e.view.fields n f at) f at).flag))
+    (is_for_each _ false e.view.fields known' lk (λ n f at. (a.done n (slice_get_within e.view.fields n f at) f at).knows))
   where
     here : (n : ℕ) → n < length e.view.fields → slice_index values' n ≡ slice_index next n
-    here n lt = ap (λ xs. slice_index xs n) are ∙ get_or-take (length values) next n 0 (omega (arith, len, lt))
+    here n lt = ap (λ xs. slice_index xs n) are ∙ get_or-take (length s.values) next n 0 (omega (arith, len, lt))
 
 pub next_fits : (e : Edge) (values : List ℕ) (used known : List Bool) (next values' : List ℕ) (used' known' : List Bool) → length values ≡ length e.view.fields → length values ≤ length next → values' ≡ take (length values) next
     → length used' ≡ length e.view.fields → length known' ≡ length e.view.fields

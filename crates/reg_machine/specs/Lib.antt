@@ -3,5 +3,6 @@ pub mod Conditions
 pub mod Machines
 pub mod Nexts
 pub mod OneField
+pub mod States
 pub mod Steps
 pub mod Turns

@@ -1,5 +1,5 @@
--- The register machine: its answer to a bus event, its outputs and its next state.
-use Rattle.std.specs.Prelude.{◌≡◌, ℕ, ◌+◌, ◌-◌, ◌^◌, ◌<◌, Bool, true, false, not, ◌==◌, ◌||◌, ◌&&◌, nat_le, nat_lt, List, Option, Some, None, if◌then◌else◌, length, map, slice_get, slice_index, slice_index_or}
+-- The register machine: its answer to a bus event and its outputs.
+use Rattle.std.specs.Prelude.{ℕ, ◌+◌, ◌-◌, Bool, true, false, not, ◌==◌, ◌||◌, ◌&&◌, nat_le, nat_lt, List, Option, Some, None, length, slice_get, slice_index_or}
 use Rattle.std.specs.Option.{option_map_or}
 use Rattle.std.specs.List.{list_any}
 use Rattle.field_policies.specs.declared.field.Field.{Field}
@@ -8,13 +8,13 @@ use Rattle.field_policies.specs.declared.signal.OutSignal.{OutSignal}
 use Rattle.field_policies.specs.declared.signal.OutSignal.TheVariants as out
 use Rattle.field_policies.specs.declared.extra.Extra.{Extra}
 use Rattle.field_policies.specs.declared.extra.Extra.TheVariants as extra
-use Rattle.field_policies.specs.Bits.{bit, any_below, all_below, odd_below, AreBitsOf}
+use Rattle.field_policies.specs.Bits.{bit, any_below, all_below, odd_below}
 use Rattle.field_policies.specs.Fields.{filter_of, members_of}
 use Rattle.field_policies.specs.Expressions.{expr_value, value_of, one_if, shows}
 use Rattle.field_extras.specs.Interrupts.{interrupt_bits}
 use Rattle.apb_rules.specs.declared.event.BusEvent.{BusEvent}
 use Rattle.apb_rules.specs.declared.event.BusEvent.TheVariants.{Nothing, Read, Write}
-use Rattle.reg_machine.specs.Steps.{View, Edge, reads, is_touched, is_software_active, count_of, next_bit, next_used, next_known}
+use Rattle.reg_machine.specs.Steps.{View, Edge, reads, is_touched, is_software_active, count_of}
 
 -- bit j of the bus word is one of the field's
 abbrev pub has_bit : Field → ℕ → Bool
@@ -101,18 +101,3 @@ abbrev pub always_counts : OutSignal → Bool
 always_counts out.SwMod = true
 always_counts out.SwAcc = true
 always_counts _ = false
-
--- the machine after reset: the reset values, nothing used, known where the field starts known
-pub record IsReset (fields : List Field) (values : List ℕ) (used known : List Bool) : Type 0 where
-  pub values_are : values ≡ map (λ f. if f.wire then 0 else f.reset) fields
-  pub used_are : used ≡ map (λ f. false) fields
-  pub known_are : known ≡ map (λ f. f.starts_known) fields
-
--- the machine's state after an edge: each stored field steps by its bits, a wire keeps its entry
-pub record IsNext (e : Edge) (values : List ℕ) (used known : List Bool) (values' : List ℕ) (used' known' : List Bool) : Type 0 where
-  pub stored : (n : ℕ) (f : Field) → slice_get e.view.fields n ≡ Some f → f.wire ≡ false
-      → AreBitsOf f.width (next_bit e f (slice_index_or used n false) (slice_index values n)) (slice_index values' n)
-  pub wires : (n : ℕ) (f : Field) → slice_get e.view.fields n ≡ Some f → f.wire ≡ true → slice_index values' n ≡ slice_index values n
-  pub flags : (n : ℕ) (f : Field) → slice_get e.view.fields n ≡ Some f → slice_index_or used' n false ≡ next_used e f (slice_index_or used n false)
-  pub knowns : (n : ℕ) (f : Field) → slice_get e.view.fields n ≡ Some f
-      → slice_index_or known' n false ≡ next_known e f (slice_index_or used n false) (slice_index_or known n false) (slice_index values n)

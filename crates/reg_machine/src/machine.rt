@@ -5,7 +5,8 @@ ghost use Rattle.std.specs.Result.{IfOk};
 ghost use Rattle.field_policies.specs.declared.field.Field.{Field};
 ghost use Rattle.field_policies.specs.Bits.{AreBitsOf};
 ghost use Rattle.reg_machine.specs.Conditions.{AreInputs, IsState, edge_of};
-ghost use Rattle.reg_machine.specs.Machines.{IsNext, IsReset, always_counts, answer_bit, counts_bit, is_shown, is_unmapped, output_of, output_width};
+ghost use Rattle.reg_machine.specs.Machines.{always_counts, answer_bit, counts_bit, is_shown, is_unmapped, output_of, output_width};
+ghost use Rattle.reg_machine.specs.States.{next_state, reset_state, state_of};
 
 use crate::answer::{hidden_word, is_unmapped, shown_word};
 use crate::expr::{field_at, value_at};
@@ -41,7 +42,7 @@ pub struct Answer {
 impl Machine {
     /// The machine after reset: each stored field has its reset value, 0 where it has none.
     pub fn reset(alloc: Global, map: &RegMap) -> Result<Machine, AllocError>
-        ensures reset { IfOk result (λ m. IsReset map.now.fields.items m.values.items m.used.items m.known.items) }
+        ensures reset { IfOk result (λ m. state_of m ≡ reset_state map.now.fields.items) }
         ensures state { IfOk result (λ m. IsState map.now.fields.items m.values.items m.used.items m.known.items) }
     {
         let count = map.fields.len();
@@ -125,7 +126,7 @@ impl Machine {
     pub fn step(&mut self, map: &RegMap, event: BusEvent, hw: &[u32])
         requires state { IsState map.now.fields.items self.old.values.items self.old.used.items self.old.known.items }
         requires hw { AreInputs map.now.inputs.items hw.now }
-        ensures next { IsNext (edge_of map.now self.old.values.items hw.now event) self.old.values.items self.old.used.items self.old.known.items self.new.values.items self.new.used.items self.new.known.items }
+        ensures next { state_of self.new ≡ next_state (edge_of map.now self.old.values.items hw.now event) (state_of self.old) }
         ensures state { IsState map.now.fields.items self.new.values.items self.new.used.items self.new.known.items }
     {
         let mut next = [0; 4096];

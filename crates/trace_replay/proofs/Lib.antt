@@ -1,2 +1,4 @@
 mod ExpressionLemmas
+mod FirstMap
+mod JointLemmas
 mod TraceLemmas

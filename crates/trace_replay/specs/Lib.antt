@@ -1,5 +1,6 @@
 pub mod Expression
-pub mod Machine
+pub mod Blocks
+pub mod States
 pub mod Joint
 pub mod Trace
 pub mod TraceText

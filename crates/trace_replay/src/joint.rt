@@ -1,17 +1,20 @@
 //! The joint run: block and register machine side by side under one legal master.
 
-ghost use Rattle.std.specs.Prelude.{◌≡◌, ◌<◌, length, IfOk, IfSome};
-ghost use Rattle.trace_replay.specs.Joint.{start_of, in_reset, wires_of, pins_of, shown_at, state_after, is_waiting, wrong_error, wrong_data, difference_at, waited_after, wires_from, first_difference};
+ghost use Rattle.std.specs.Prelude.{◌≡◌, ◌<◌, ◌&&◌, ℕ, Bool, not, length, IfOk, IfSome};
+ghost use Rattle.field_policies.specs.Bits.{AreBitsOf};
+ghost use Rattle.trace_replay.specs.Joint.{start_of, in_reset, wires_of, pins_of, shown_at, state_after, is_read, is_waiting, unlike, wrong_error, wrong_output, difference_at, waited_after, wires_from, first_difference};
 
-use crate::block::{Block, Outputs, shown};
-use crate::machine::{Answer, Machine};
+use crate::block::{Block, Outputs};
 use crate::pins::Pins;
 use apb_rules::drive::drive;
 use apb_rules::event::{BusEvent, event_of};
 use apb_rules::phase::{Phase, next_phase};
 use apb_rules::style::BusStyle;
 use apb_rules::wires::{BusWires, Choice};
+use field_policies::signal::OutSignal;
+use reg_machine::machine::{Answer, Machine};
 use std::alloc::{AllocError, Global};
+use std::marker::Model;
 use std::vec::Vec;
 
 /// How many edges the reset pin is active, from the first edge on.
@@ -20,16 +23,30 @@ pub const RESET_EDGES: u32 = 1;
 /// How many access edges of a transfer PREADY may be 0.
 pub const WAIT: u32 = 0;
 
+/// Whether the machine refuses an event at an address without a word.
+pub const UNMAPPED_ERROR: bool = false;
+
 /// The state before an edge: `edge` counts the edges so far and stops at the reset edges' number;
 /// `waited` counts the access edges of the open transfer at which PREADY was 0 and stops one
 /// above the number that may be.
-#[derive(Clone, Copy)]
+#[derive(Drop)]
 pub struct JointState {
-    pub edge: u32,
-    pub register: u8,
-    pub machine: Machine,
-    pub phase: Phase,
-    pub waited: u32,
+    edge: u32,
+    register: u8,
+    machine: Machine,
+    phase: Phase,
+    waited: u32,
+}
+
+impl Model for JointState {
+    ghost use Rattle.reg_machine.specs.States.{state_of};
+    ghost use Rattle.trace_replay.specs.States.{JointParts, OfOneByte};
+
+    ghost Value = { JointParts };
+
+    ghost view = { λ s. record { edge = s.edge; register = s.register; machine = state_of s.machine; phase = s.phase; waited = s.waited } };
+
+    ghost invariant = { λ s. OfOneByte s.machine };
 }
 
 /// How block and machine differ at an edge: a wait too long, PSLVERR, PRDATA, or the output of the
@@ -43,29 +60,29 @@ pub enum Difference {
 }
 
 /// The state before the first edge, where the block's register holds `register`.
-pub fn start(block: &Block, register: u8) -> JointState
-    ensures { result ≡ start_of block.now register }
+pub fn start(alloc: Global, block: &Block, register: u8) -> Result<JointState, AllocError>
+    ensures { IfOk result (λ state. state ≡ start_of block.now register) }
 {
-    JointState {
+    Ok(JointState {
         edge: 0,
         register,
-        machine: Machine { value: block.reset },
+        machine: Machine::reset(alloc, &block.map)?,
         phase: Phase::Free,
         waited: 0,
-    }
+    })
 }
 
 impl JointState {
     /// Whether the next edge is a reset edge.
-    pub fn in_reset(self) -> bool
-        ensures { result ≡ in_reset self }
+    pub fn in_reset(&self) -> bool
+        ensures { result ≡ in_reset self.now }
     {
         self.edge < RESET_EDGES
     }
 
     /// The wires that the master drives for this choice.
-    pub fn wires(self, choice: Choice) -> BusWires
-        ensures { result ≡ wires_of self choice }
+    pub fn wires(&self, choice: Choice) -> BusWires
+        ensures { result ≡ wires_of self.now choice }
     {
         let start = choice.start && !self.in_reset();
         let style = BusStyle {
@@ -86,8 +103,8 @@ impl JointState {
     }
 
     /// The pins of the block under these wires.
-    pub fn pins(self, wires: BusWires) -> Pins
-        ensures { result ≡ pins_of self wires }
+    pub fn pins(&self, wires: BusWires) -> Pins
+        ensures { result ≡ pins_of self.now wires }
     {
         Pins {
             reset_n: !self.in_reset(),
@@ -96,61 +113,62 @@ impl JointState {
     }
 
     /// What the block shows under these wires.
-    fn shown(self, block: &Block, wires: BusWires) -> Outputs
-        ensures { result ≡ shown_at block.now self wires }
+    fn shown(&self, block: &Block, wires: BusWires) -> Outputs
+        ensures { result ≡ shown_at block.now self.now wires }
     {
-        shown(block, self.pins(wires), self.register)
+        block.shown(self.pins(wires), self.register)
     }
 
     /// The difference of the edge with these wires, the first of the four that holds.
-    pub fn difference(self, block: &Block, wires: BusWires) -> Option<Difference>
-        ensures { result ≡ difference_at block.now self wires }
+    pub fn difference(&self, block: &Block, wires: BusWires) -> Option<Difference>
+        ensures { result ≡ difference_at block.now self.now wires }
     {
         if self.in_reset() {
             return None;
         }
         let shown = self.shown(block, wires);
         let event = event_of(wires, shown.ready);
-        let answer = self.machine.answer(event);
         if is_waiting(wires, shown) && self.waited >= WAIT {
             return Some(Difference::Wait);
         }
-        if wrong_error(event, answer, shown) {
+        let answer = self.machine.answer(&block.map, UNMAPPED_ERROR, event, &[]);
+        if wrong_error(answer.error, event, shown) {
             return Some(Difference::Error);
         }
-        if wrong_data(event, answer, shown) {
+        if is_wrong_data(answer, event, shown) {
             return Some(Difference::ReadData);
         }
-        if shown.value != self.machine.value {
+        if self.is_wrong_output(block, event, shown) {
             return Some(Difference::Output(0));
         }
         None
     }
 
-    /// The state after the edge with these wires.
-    pub fn after(self, block: &Block, wires: BusWires) -> JointState
-        ensures { result ≡ state_after block.now self wires }
+    /// Whether the mapped output, the value of the map's field, counts and is unlike the machine's.
+    fn is_wrong_output(&self, block: &Block, event: BusEvent, shown: Outputs) -> bool
+        ensures { result ≡ wrong_output block.now self.now.machine event shown }
+    {
+        let signal = OutSignal::Value;
+        self.machine.counts(&block.map, 0, signal)
+            && u32::from(shown.value) != self.machine.output(&block.map, event, &[], 0, signal)
+    }
+
+    /// Steps over the edge with these wires.
+    pub fn step(&mut self, block: &Block, wires: BusWires)
+        ensures { self.new ≡ state_after block.now self.old wires }
     {
         let pins = self.pins(wires);
         let shown = self.shown(block, wires);
-        let register = block.next.value(pins, self.register);
-        let waited = waited(self, wires, shown);
-        let edge = self.edge.saturating_add(1).min(RESET_EDGES);
-        if self.in_reset() {
-            return JointState {
-                edge,
-                register,
-                machine: self.machine,
-                phase: Phase::Free,
-                waited,
-            };
-        }
-        JointState {
-            edge,
-            register,
-            machine: self.machine.step(event_of(wires, shown.ready)),
-            phase: next_phase(self.phase, wires, shown.ready),
-            waited,
+        let event = event_of(wires, shown.ready);
+        let reset = self.in_reset();
+        self.register = block.taken(pins, self.register);
+        self.waited = waited(self.waited, wires, shown);
+        self.edge = self.edge.saturating_add(1).min(RESET_EDGES);
+        if reset {
+            self.phase = Phase::Free;
+        } else {
+            self.machine.step(&block.map, event, &[]);
+            self.phase = next_phase(self.phase, wires, shown.ready);
         }
     }
 }
@@ -164,34 +182,42 @@ fn is_waiting(wires: BusWires, shown: Outputs) -> bool
 
 /// How many edges the open transfer waited after this edge, at most one above the number that may
 /// be.
-fn waited(state: JointState, wires: BusWires, shown: Outputs) -> u32
-    ensures { result ≡ waited_after state wires shown }
+fn waited(before: u32, wires: BusWires, shown: Outputs) -> u32
+    ensures { result ≡ waited_after before wires shown }
 {
     if is_waiting(wires, shown) {
-        state.waited.saturating_add(1).min(WAIT + 1)
+        before.saturating_add(1).min(WAIT + 1)
     } else {
         0
     }
 }
 
 /// Whether a transfer ends here with a PSLVERR unlike the machine's error.
-fn wrong_error(event: BusEvent, answer: Answer, shown: Outputs) -> bool
-    ensures { result ≡ wrong_error event answer shown }
+fn wrong_error(error: bool, event: BusEvent, shown: Outputs) -> bool
+    ensures { result ≡ wrong_error error event shown }
 {
     match event {
         BusEvent::Nothing => false,
-        BusEvent::Read(_) | BusEvent::Write { .. } => shown.error != answer.error,
+        BusEvent::Read(_) | BusEvent::Write { .. } => shown.error != error,
     }
 }
 
-/// Whether a read ends here, which the machine doesn't refuse, with a PRDATA unlike its data.
-fn wrong_data(event: BusEvent, answer: Answer, shown: Outputs) -> bool
-    ensures { result ≡ wrong_data event answer shown }
+/// Whether a read ends here, which the machine doesn't refuse, with a PRDATA unlike its data in a bit
+/// that counts.
+fn is_wrong_data(answer: Answer, event: BusEvent, shown: Outputs) -> bool
+    ensures { (word counts : ℕ → Bool) → AreBitsOf 8 word answer.payload → AreBitsOf 8 counts answer.counts → result ≡ (is_read event && not answer.error && unlike 8 shown.read_data word counts) }
 {
     match event {
-        BusEvent::Read(_) => !answer.error && u32::from(shown.read_data) != answer.payload,
+        BusEvent::Read(_) => !answer.error && is_unlike(shown.read_data, answer),
         BusEvent::Nothing | BusEvent::Write { .. } => false,
     }
+}
+
+/// Whether this data is unlike the answer's in a bit that counts.
+fn is_unlike(shown: u8, answer: Answer) -> bool
+    ensures { (word counts : ℕ → Bool) → AreBitsOf 8 word answer.payload → AreBitsOf 8 counts answer.counts → result ≡ unlike 8 shown word counts }
+{
+    answer.counts & (u32::from(shown) ^ answer.payload) != 0
 }
 
 /// The wires of the run under these choices, from this state on.
@@ -207,7 +233,7 @@ pub fn run_wires(
     let mut run = Vec::with_capacity(alloc, choices.len())?;
     for choice in choices {
         let wires = state.wires(*choice);
-        state = state.after(block, wires);
+        state.step(block, wires);
         run.push(wires)?;
     }
     Ok(run)
@@ -216,19 +242,20 @@ pub fn run_wires(
 /// The first edge with a difference of the run under these wires, where the block's register
 /// starts with `register`, and that difference.
 pub fn first_difference(
+    alloc: Global,
     block: &Block,
     register: u8,
     run: &[BusWires],
-) -> Option<(usize, Difference)>
-    ensures first { result ≡ first_difference block.now register run.now }
-    ensures inside { IfSome result (λ found. found.0 < length run.now) }
+) -> Result<Option<(usize, Difference)>, AllocError>
+    ensures first { IfOk result (λ found. found ≡ first_difference block.now register run.now) }
+    ensures inside { IfOk result (λ found. IfSome found (λ at. at.0 < length run.now)) }
 {
-    let mut state = start(block, register);
+    let mut state = start(alloc, block, register)?;
     for (edge, wires) in run.iter().enumerate() {
         if let Some(difference) = state.difference(block, *wires) {
-            return Some((edge, difference));
+            return Ok(Some((edge, difference)));
         }
-        state = state.after(block, *wires);
+        state.step(block, *wires);
     }
-    None
+    Ok(None)
 }

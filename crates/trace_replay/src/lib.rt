@@ -5,7 +5,7 @@
 pub mod block;
 pub mod expression;
 pub mod joint;
-pub mod machine;
+pub mod map;
 pub mod pins;
 pub mod text;
 pub mod trace;

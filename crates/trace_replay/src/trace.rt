@@ -51,7 +51,7 @@ fn edges_from(
     let mut edges = Vec::with_capacity(alloc, run.len())?;
     for wires in run {
         edges.push(edge_bits(alloc, state.pins(*wires))?)?;
-        state = state.after(block, *wires);
+        state.step(block, *wires);
     }
     Ok(edges)
 }
@@ -69,7 +69,7 @@ pub fn trace_of_run(
 {
     let bits = bits_of(alloc, u128::from(register), 8)?;
     let start_bits = bits.as_slice().to_vec(alloc)?;
-    let edges = edges_from(alloc, block, start(block, register), run)?;
+    let edges = edges_from(alloc, block, start(alloc, block, register)?, run)?;
     Ok(Trace {
         start: start_bits,
         edges,

@@ -1,5 +1,6 @@
 use Rattle.std.proofs.Common.{arith}
-use Rattle.reg_machine.proofs.NextLemmas.{reset_empty, reset_pushed, reset_all, reset_state}
+use Rattle.reg_machine.proofs.NextLemmas.{reset_empty, reset_pushed, reset_all, reset_fits_map}
+use Rattle.reg_machine.proofs.StateLemmas.{reset_is}
 use Rattle.reg_machine.proofs.machine.Machine.reset.Goals as goal
 
 pub loop-number-init : goal.loop-number-init
@@ -10,7 +11,7 @@ loop-number-preserved c = reset_pushed c.args.map.now.fields.items c.loop-number
     c.field_at-field.ensures.here c.reset_value.ensures c.in_ok-push.ensures.items c.in_ok-push-2.ensures.items c.in_ok-push-3.ensures.items c.loop-number.invariant
 
 pub returns-clause-reset : goal.returns-clause-reset
-returns-clause-reset c = reset_all c.args.map.now.fields.items c.loop-number.number _ _ _ (omega arith) c.loop-number.invariant
+returns-clause-reset c = reset_is _ _ _ _ (reset_all c.args.map.now.fields.items c.loop-number.number _ _ _ (omega arith) c.loop-number.invariant)
 
 pub returns-clause-state : goal.returns-clause-state
-returns-clause-state c = reset_state c.args.map.now _ _ _ (reset_all c.args.map.now.fields.items c.loop-number.number _ _ _ (omega arith) c.loop-number.invariant)
+returns-clause-state c = reset_fits_map c.args.map.now _ _ _ (reset_all c.args.map.now.fields.items c.loop-number.number _ _ _ (omega arith) c.loop-number.invariant)

@@ -1,5 +1,5 @@
 use Rattle.std.proofs.Common.{take}
-use Rattle.reg_machine.specs.Machines.{IsReset}
+use Rattle.reg_machine.specs.Nexts.{IsReset}
 use Rattle.reg_machine.proofs.machine.Machine.reset.Given as goal
 
 abbrev pub invariant-loop-number : goal.invariant-loop-number
