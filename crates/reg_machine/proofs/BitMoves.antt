@@ -1,14 +1,14 @@
 -- What shifts, masks and tests on numbers do to the bits that they stand for.
-use Rattle.std.proofs.Common.{◌≡◌, ℕ, zero, suc, ◌+◌, ◌-◌, ◌*◌, ◌/◌, ◌%◌, ◌^◌, ◌<◌, ◌≤◌, ◌⊎◌, inl, inr, Bool, true, false, not, cond, ◌||◌, ◌&&◌, refl, arith, ap, subst, ◌∙◌, sym, eqb, leb, ltb, add-zero}
+use Rattle.std.proofs.Common.{◌≡◌, ℕ, zero, suc, ◌+◌, ◌-◌, ◌*◌, ◌/◌, ◌%◌, ◌^◌, ◌<◌, ◌≤◌, inl, inr, Bool, true, false, not, cond, ◌||◌, ◌&&◌, refl, arith, ap, subst, ◌∙◌, sym, eqb, leb, ltb, add-zero}
 use Rattle.std.specs.Int.{bit_at}
 use Rattle.std.specs.Int.Bits.{bit_and}
 use Rattle.std.specs.Int.RustNames.{bit_or, bit_xor}
 use Rattle.std.proofs.Math.Nat.{mod-eq_of_lt}
 use Rattle.std.proofs.Math.Pow.{pow_mono}
-use Rattle.std.proofs.lemmas.Nat.{shr-shr, and_le_r, pow-add, mul-lt, pow_pos}
-use Rattle.std.proofs.lemmas.Nat.Bits.{bit_at-lt, bit_at-zero, bit_at_above, bit_at_cat_low, bit_at_cat_high, bit_at_mask_inside, bit_at_mask_below, bit_at_mask_above}
+use Rattle.std.proofs.lemmas.Nat.{shr-shr, and_le_r, pow-add, pow_pos}
+use Rattle.std.proofs.lemmas.Nat.Bits.{bit_at-zero, bit_at_above, bit_at_cat_low, bit_at_cat_high}
 use Rattle.std.proofs.lemmas.Bool.Decides.{leb_tells, nat_tests}
-use Rattle.field_policies.specs.Bits.{bit, any_below, all_below, odd_below, differ, AreBitsOf}
+use Rattle.field_policies.specs.Bits.{bit, any_below, all_below, AreBitsOf}
 use Rattle.reg_machine.specs.Bytes.{in_byte}
 use Rattle.field_policies.proofs.BitLemmas.{bit_of_and, bit_of_zero, bit_of_ones, own_bits, same_bits, no_bits, full_bits, and_bits, or_bits, inverse_bits, one_number}
 

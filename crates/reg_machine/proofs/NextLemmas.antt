@@ -1,17 +1,15 @@
 -- One more field has its next state.
-use Rattle.std.proofs.Common.{◌≡◌, ◌≢◌, ℕ, ◌+◌, ◌<◌, ◌≤◌, ◌⊎◌, inl, inr, Bool, true, false, List, Some, slice_get, slice_index, length, refl, arith, ap, subst, ◌∙◌, sym, below_more, get_or, set, take, map, [], ◌∷◌, ◌++◌, cond, zero, suc, ◌^◌}
+use Rattle.std.proofs.Common.{◌≡◌, ◌≢◌, ℕ, ◌+◌, ◌<◌, ◌≤◌, Bool, true, false, List, Some, slice_get, slice_index, length, refl, arith, ap, subst, ◌∙◌, sym, below_more, set, take, map, [], ◌∷◌, ◌++◌, cond, zero, suc, ◌^◌}
 use Rattle.std.specs.Prelude.{slice_index_or}
 use Rattle.std.proofs.lemmas.List.{get_or-set_same, get_or-set_other, get_or-take, take_more, take_all, map-append, length-map, length-take-le}
 use Rattle.std.proofs.lemmas.Option.{same_Some, slice_get_within, get_or_from_slice_get}
 use Rattle.std.proofs.lemmas.Nat.{pow_pos}
-use Rattle.std.proofs.lemmas.Bool.Decides.{leb_tells}
 use Rattle.field_policies.specs.declared.field.Field.{Field}
 use Rattle.field_policies.specs.declared.map.RegMap.{RegMap}
-use Rattle.field_policies.specs.Bits.{AreBitsOf}
-use Rattle.reg_machine.specs.Conditions.{AreValues, IsState}
+use Rattle.reg_machine.specs.Conditions.{IsState}
 use Rattle.reg_machine.specs.Steps.{Edge}
 use Rattle.reg_machine.specs.Nexts.{AreNext, IsNextState, IsReset}
-use Rattle.reg_machine.specs.States.{State, next_state, next_value, value_in, used_in, known_in}
+use Rattle.reg_machine.specs.States.{State, next_state, next_value}
 use Rattle.reg_machine.proofs.StateLemmas.{is_for_each, number_is, same_state, state_with}
 
 pub next_init : (e : Edge) (values : List ℕ) (used known : List Bool) (values' : List ℕ) → AreNext e values used known 0 values' used known
@@ -89,7 +87,7 @@ unfolding next_state
 next_all e s next values' used' known' len room are lu lk a = same_state _ _ _ _ _ _
     (is_for_each (next_value e s) 0 e.view.fields values' (ap length are ∙ length-take-le (length s.values) next room ∙ len)
     (λ n f at. let lt : n < length e.view.fields = slice_get_within e.view.fields n f at in
-        here n lt ∙ either f.wire (slice_index next n) _ _ ((a.done n lt f at).wire) (λ w. number_is f.width _ _ ((a.done n lt f at).stored w))))
+    here n lt ∙ either f.wire (slice_index next n) _ _ ((a.done n lt f at).wire) (λ w. number_is f.width _ _ ((a.done n lt f at).stored w))))
     (is_for_each _ false e.view.fields used' lu (λ n f at. (a.done n (slice_get_within e.view.fields n f at) f at).flag))
     (is_for_each _ false e.view.fields known' lk (λ n f at. (a.done n (slice_get_within e.view.fields n f at) f at).knows))
   where

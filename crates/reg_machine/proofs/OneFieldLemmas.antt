@@ -1,5 +1,5 @@
 -- A field that stands alone is a valid map.
-use Rattle.std.proofs.Common.{◌≡◌, ◌≢◌, ℕ, zero, suc, ◌+◌, ◌-◌, ◌^◌, ◌<◌, ◌≤◌, ◌%◌, Bool, true, false, List, [], ◌∷◌, length, Some, None, slice_get, refl, arith, ap, subst, ◌∙◌, sym, lit<, lit≤, eq-eqb}
+use Rattle.std.proofs.Common.{◌≡◌, ◌≢◌, ℕ, zero, suc, ◌+◌, ◌-◌, ◌^◌, ◌<◌, ◌≤◌, ◌%◌, Bool, true, false, List, [], ◌∷◌, Some, None, slice_get, refl, arith, ap, subst, ◌∙◌, sym, lit<, lit≤, eq-eqb}
 use Rattle.std.proofs.lemmas.Option.{same_Some}
 use Rattle.field_policies.specs.declared.field.Field.{Field}
 use Rattle.field_policies.specs.declared.signal.HwInput.{HwInput}
@@ -7,14 +7,14 @@ use Rattle.field_policies.specs.declared.signal.InSignal.{InSignal}
 use Rattle.field_policies.specs.declared.signal.InSignal.TheVariants as in_signal
 use Rattle.field_policies.specs.declared.signal.HwExpr.{HwExpr}
 use Rattle.field_policies.specs.declared.signal.HwExpr.TheVariants as expr
-use Rattle.field_policies.specs.Fields.{EachExpr, is_in_range, has_width, filter_of, members_of, is_counter, is_intr}
+use Rattle.field_policies.specs.Fields.{EachExpr, is_in_range, has_width, members_of, is_counter, is_intr}
 use Rattle.field_policies.specs.FieldPath.{IsFieldPath, Step, is_name, is_index}
 use Rattle.field_policies.specs.declared.policy.ReadEffect.TheVariants.{Keep}
 use Rattle.field_policies.specs.declared.extra.Extra.TheVariants as extra
 use Rattle.field_policies.specs.declared.extra.Counter.{Counter}
 use Rattle.field_policies.specs.Maps.{EachField, IsBus, AreInWords, AreResets, AreInRange, AreDistinct, HavePaths, AreWide, AreWires, AreCounters, AreInterrupts, IsSmall}
 use Rattle.reg_machine.specs.OneField.{StandsAlone, inputs}
-use Rattle.reg_machine.specs.Conditions.{AreInputs, IsFieldOf}
+use Rattle.reg_machine.specs.Conditions.{AreInputs}
 use Rattle.reg_machine.specs.Machines.{is_shown}
 use Rattle.field_policies.specs.Expressions.{shows, one_if}
 use Rattle.std.specs.Int.Bits.{bit_and}

@@ -1,5 +1,5 @@
 -- What a field of the map shows, by its number.
-use Rattle.std.proofs.Common.{◌≡◌, ℕ, ◌+◌, ◌-◌, Bool, true, false, not, ◌||◌, ◌&&◌, List, Some, None, slice_get, refl, ap, sym, ◌∙◌, eqb, leb, ltb}
+use Rattle.std.proofs.Common.{◌≡◌, ℕ, ◌+◌, ◌-◌, Bool, true, false, not, ◌&&◌, List, Some, None, slice_get, refl, ap, sym, ◌∙◌, eqb, leb, ltb}
 use Rattle.std.specs.Prelude.{slice_index_or}
 use Rattle.std.specs.Option.{option_map_or}
 use Rattle.field_policies.specs.declared.field.Field.{Field}
@@ -8,10 +8,10 @@ use Rattle.field_policies.specs.declared.extra.Intr.{Intr}
 use Rattle.field_policies.specs.declared.extra.Extra.TheVariants as extra
 use Rattle.field_policies.specs.Bits.{bit}
 use Rattle.field_policies.specs.Fields.{filter_of}
-use Rattle.field_policies.specs.Expressions.{value_of, value_at}
+use Rattle.field_policies.specs.Expressions.{value_of}
 use Rattle.field_extras.specs.Interrupts.{interrupt_bits}
 use Rattle.reg_machine.specs.Steps.{View, Edge, reads}
-use Rattle.reg_machine.specs.Machines.{shows_one, hides, is_read_at, has_bit, raises, filter_value}
+use Rattle.reg_machine.specs.Machines.{shows_one, hides, is_read_at, raises, filter_value}
 use Rattle.reg_machine.proofs.BitMoves.{joined_true, joined_false}
 
 pub flip : (a b : Bool) → a ≡ not b → b ≡ not a

@@ -1,6 +1,5 @@
 -- A state that has the right entry for each field is the next state.
-use Rattle.std.proofs.Common.{◌≡◌, ℕ, zero, suc, ◌+◌, ◌*◌, ◌/◌, ◌%◌, ◌^◌, ◌<◌, Bool, true, false, cond, List, [], ◌∷◌, length, map, Some, slice_get, slice_index, get_or, eqb, refl, arith, ap, subst, ◌∙◌, sym}
-use Rattle.std.specs.Prelude.{slice_index_or}
+use Rattle.std.proofs.Common.{◌≡◌, ℕ, zero, suc, ◌+◌, ◌*◌, ◌/◌, ◌%◌, ◌^◌, ◌<◌, Bool, true, false, cond, List, [], ◌∷◌, length, map, Some, slice_get, get_or, eqb, refl, arith, ap, subst, ◌∙◌}
 use Rattle.std.specs.List.{enumerate_from, range_with_len}
 use Rattle.std.specs.Int.{bit_at}
 use Rattle.std.proofs.lemmas.Nat.Bits.{bit_at-suc, bit_at_lowest, bit_at-zero}
@@ -10,9 +9,8 @@ use Rattle.bit_base.proofs.Numbers.{number_of-below}
 use Rattle.field_policies.specs.declared.field.Field.{Field}
 use Rattle.field_policies.specs.Bits.{bit, AreBitsOf}
 use Rattle.field_policies.proofs.BitLemmas.{one_number}
-use Rattle.reg_machine.specs.Steps.{Edge, next_bit, next_used, next_known}
 use Rattle.reg_machine.specs.Nexts.{IsReset}
-use Rattle.reg_machine.specs.States.{State, reset_state, next_state, next_value, number_of_bits, for_each, value_in, used_in, known_in}
+use Rattle.reg_machine.specs.States.{State, reset_state, number_of_bits, for_each}
 
 -- a number's bits are the places that it stands for
 first_place : (b : Bool) (n : ℕ) → eqb (bit_at (cond b 1 0 + 2 * n) 0) 1 ≡ b

@@ -1,9 +1,9 @@
 -- What the invariant of a map says of each of its fields, and of the values that expressions read.
-use Rattle.std.proofs.Common.{◌≡◌, ℕ, ◌+◌, ◌-◌, ◌^◌, ◌<◌, ◌≤◌, ◌⊎◌, inl, inr, Bool, true, false, not, cond, ◌||◌, ◌&&◌, List, length, Some, None, Option, slice_get, slice_index, refl, arith, ap, subst, ◌∙◌, sym, eqb, pow_pos}
+use Rattle.std.proofs.Common.{◌≡◌, ℕ, ◌+◌, ◌-◌, ◌^◌, ◌<◌, ◌≤◌, inl, inr, Bool, true, false, not, cond, List, length, Some, slice_get, slice_index, refl, arith, ap, subst, ◌∙◌, sym}
 use Rattle.std.specs.Option.{option_map_or}
 use mathlib.Core.Bool.{beq}
 use Rattle.std.specs.Int.RustNames.{bit_xor}
-use Rattle.std.proofs.lemmas.Option.{slice_get_cases, slice_get-get_or, slice_get_within, slice_get_read}
+use Rattle.std.proofs.lemmas.Option.{slice_get_cases, slice_get-get_or}
 use Rattle.std.proofs.lemmas.Bool.{ltb-true}
 use Rattle.std.proofs.lemmas.Bool.Decides.{nat_tests}
 use Rattle.field_policies.specs.declared.field.Field.{Field}
@@ -15,8 +15,8 @@ use Rattle.field_policies.specs.declared.signal.Gate.{Gate}
 use Rattle.field_policies.specs.Bits.{bit, AreBitsOf}
 use Rattle.field_policies.specs.Maps.{is_bus_width}
 use Rattle.field_policies.specs.Fields.{expr_width, has_width, is_in_range}
-use Rattle.field_policies.specs.Expressions.{input_value, value_of, value_at, width_at, expr_value, is_given, is_open, one_if}
-use Rattle.field_policies.proofs.BitLemmas.{own_bits, full_bits, inverse_bits}
+use Rattle.field_policies.specs.Expressions.{value_of, value_at, width_at, expr_value, is_open}
+use Rattle.field_policies.proofs.BitLemmas.{own_bits, inverse_bits}
 use Rattle.reg_machine.specs.Conditions.{AreInputs, AreValues, IsFieldOf}
 
 pub got : {A : Type 0} (xs : List A) (i : ℕ) → i < length xs → (x : A) × (slice_get xs i ≡ Some x)

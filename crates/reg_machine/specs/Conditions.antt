@@ -1,5 +1,5 @@
 -- What the calls of a machine ask of its lists.
-use Rattle.std.specs.Prelude.{◌≡◌, ℕ, ◌<◌, ◌^◌, ◌+◌, ◌≤◌, Bool, List, Some, IsTrue, length, slice_get}
+use Rattle.std.specs.Prelude.{◌≡◌, ℕ, ◌<◌, ◌^◌, ◌+◌, ◌≤◌, Bool, List, Some, length, slice_get}
 use Rattle.field_policies.specs.declared.field.Field.{Field}
 use Rattle.field_policies.specs.declared.signal.HwInput.{HwInput}
 use Rattle.field_policies.specs.declared.map.RegMap.{RegMap}

@@ -1,6 +1,6 @@
 -- What makes a field a valid map by itself: the one field of a 32-bit word at address 0, with the
 -- hardware inputs data, `we`, `hwset`, `hwclr`, a number for `hwenable`, `swwe`, `incr` and `decr`.
-use Rattle.std.specs.Prelude.{◌≡◌, ◌≢◌, ℕ, ◌^◌, ◌<◌, ◌≤◌, Bool, true, false, List, [], ◌∷◌, Option, Some, None, slice_get}
+use Rattle.std.specs.Prelude.{◌≡◌, ◌≢◌, ℕ, ◌^◌, ◌<◌, ◌≤◌, true, false, List, [], ◌∷◌, Option, Some, None, slice_get}
 use Rattle.field_policies.specs.declared.field.Field.{Field}
 use Rattle.field_policies.specs.declared.signal.HwInput.{HwInput}
 use Rattle.field_policies.specs.declared.signal.InSignal.TheVariants as in_signal

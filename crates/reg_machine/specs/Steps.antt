@@ -1,7 +1,7 @@
 -- The field step: what one edge makes of one field, by its bits and by the two sides, software and
 -- hardware (SystemRDL 2.0, clause 9, software access, hardware access, counter and interrupt
 -- properties). Every expression reads the values before the edge and the inputs at the edge.
-use Rattle.std.specs.Prelude.{◌≡◌, ℕ, ◌+◌, ◌/◌, Bool, true, false, not, ◌==◌, ◌||◌, ◌&&◌, List, Option, Some, None, if◌then◌else◌, slice_index, is_some, unwrap_or}
+use Rattle.std.specs.Prelude.{ℕ, ◌+◌, ◌/◌, Bool, true, false, not, ◌==◌, ◌||◌, ◌&&◌, List, Option, if◌then◌else◌, slice_index, is_some, unwrap_or}
 use Rattle.field_policies.specs.declared.field.Field.{Field}
 use Rattle.field_policies.specs.declared.policy.ReadEffect.{ReadEffect}
 use Rattle.field_policies.specs.declared.policy.ReadEffect.TheVariants as read
@@ -15,12 +15,12 @@ use Rattle.field_policies.specs.declared.extra.Counter.{Counter}
 use Rattle.field_policies.specs.declared.extra.Intr.{Intr}
 use Rattle.field_policies.specs.Bits.{bit, any_below, all_below}
 use Rattle.field_policies.specs.Policies.{write_bit, read_bit}
-use Rattle.field_policies.specs.Expressions.{input_value, expr_value, is_given, is_open}
+use Rattle.field_policies.specs.Expressions.{input_value, is_given, is_open}
 use Rattle.field_extras.specs.Counters.{counted}
 use Rattle.field_extras.specs.Interrupts.{interrupt_result}
 use Rattle.field_extras.specs.declared.counter.Counted.{Counted}
 use Rattle.apb_rules.specs.declared.event.BusEvent.{BusEvent}
-use Rattle.apb_rules.specs.declared.event.BusEvent.TheVariants.{Nothing, Read, Write}
+use Rattle.apb_rules.specs.declared.event.BusEvent.TheVariants.{Read, Write}
 
 -- what expressions read: the fields, their values before the edge, and the hardware inputs at the edge
 pub record View : Type 0 where

@@ -1,6 +1,6 @@
 -- A flat block beside the register map that it is held against (this project's own: a map of one word
 -- of one byte, at address 0, with one field of eight bits; SystemRDL 2.0, clause 9, sw=rw and hw=r).
-use Rattle.std.specs.Prelude.{◌≡◌, ℕ, ◌≤◌, true, false, List, [], ◌∷◌, None, IsTrue, length, codes}
+use Rattle.std.specs.Prelude.{◌≡◌, ℕ, true, false, List, [], ◌∷◌, None, IsTrue, length, codes}
 use Rattle.field_policies.specs.declared.field.Field.{Field}
 use Rattle.field_policies.specs.declared.signal.HwInput.{HwInput}
 use Rattle.field_policies.specs.declared.signal.OutSignal.TheVariants as out

@@ -1,14 +1,13 @@
 -- The joint run: the block's register and the register machine, edge by edge, under one legal master
 -- (AMBA APB, operating states and transfers; the reading of the edges is this project's own).
-use Rattle.std.specs.Prelude.{ℕ, ◌+◌, ◌==◌, nat_lt, nat_le, min, Bool, true, false, not, ◌&&◌, ◌||◌, if◌then◌else◌, Option, Some, None, List, [], ◌∷◌, slice_index_or}
+use Rattle.std.specs.Prelude.{ℕ, ◌+◌, ◌==◌, nat_lt, nat_le, min, Bool, true, false, not, ◌&&◌, ◌||◌, if◌then◌else◌, Option, Some, None, List, [], ◌∷◌}
 use Rattle.std.specs.Bool.{beq}
 use Rattle.apb_rules.specs.Drive.{driven}
 use Rattle.apb_rules.specs.Events.{bus_event}
 use Rattle.apb_rules.specs.Phases.{phase_after}
 use Rattle.apb_rules.specs.declared.event.BusEvent.{BusEvent}
 use Rattle.apb_rules.specs.declared.event.BusEvent.TheVariants.{Nothing, Read, Write}
-use Rattle.apb_rules.specs.declared.phase.Phase.{Phase}
-use Rattle.apb_rules.specs.declared.phase.Phase.TheVariants.{Free, Access}
+use Rattle.apb_rules.specs.declared.phase.Phase.TheVariants.{Free}
 use Rattle.apb_rules.specs.declared.wires.BusWires.{BusWires}
 use Rattle.apb_rules.specs.declared.wires.Choice.{Choice}
 use Rattle.field_policies.specs.Bits.{bit, differ, any_below}

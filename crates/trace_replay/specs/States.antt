@@ -1,5 +1,5 @@
 -- The state of a joint run before an edge.
-use Rattle.std.specs.Prelude.{◌≡◌, ℕ, ◌<◌, List, Some, length, slice_get}
+use Rattle.std.specs.Prelude.{◌≡◌, ℕ, ◌<◌, Some, length, slice_get}
 use Rattle.apb_rules.specs.declared.phase.Phase.{Phase}
 use Rattle.reg_machine.specs.declared.machine.Machine.{Machine}
 use Rattle.reg_machine.specs.States.{State}

@@ -1,6 +1,6 @@
 -- Traces (this project's own): the register's bits before the first edge, and at each edge the bits of
 -- the inputs in the order of the ports, each least first.
-use Rattle.std.specs.Prelude.{◌≡◌, ℕ, ⊤, length, Bool, List, [], ◌∷◌, ◌++◌, map}
+use Rattle.std.specs.Prelude.{◌≡◌, ⊤, length, Bool, List, [], ◌∷◌, ◌++◌, map}
 use Rattle.std.specs.declared.vec.Vec.{Vec}
 use Rattle.std.specs.declared.alloc.Global.{Global}
 use Rattle.bit_base.specs.Numbers.{low_bits}

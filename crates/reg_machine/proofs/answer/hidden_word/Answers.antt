@@ -1,4 +1,4 @@
-use Rattle.std.proofs.Common.{◌≡◌, ℕ, ◌+◌, arith, ap, sym, add-one, length}
+use Rattle.std.proofs.Common.{◌≡◌, arith, ap, sym, add-one, length}
 use Rattle.field_policies.specs.Bits.{any_below}
 use Rattle.field_policies.proofs.BitLemmas.{no_bits, or_bits, same_bits}
 use Rattle.reg_machine.specs.Conditions.{edge_of}

@@ -1,4 +1,3 @@
-use Rattle.std.proofs.Common.{ℕ}
 use Rattle.field_policies.specs.Bits.{any_below, AreBitsOf}
 use Rattle.reg_machine.specs.Conditions.{edge_of}
 use Rattle.reg_machine.specs.Machines.{hides}

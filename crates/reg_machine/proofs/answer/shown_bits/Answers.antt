@@ -1,4 +1,4 @@
-use Rattle.std.proofs.Common.{◌≡◌, ◌∙◌}
+use Rattle.std.proofs.Common.{◌∙◌}
 use Rattle.field_policies.proofs.BitLemmas.{same_bits, no_bits}
 use Rattle.reg_machine.specs.Conditions.{edge_of}
 use Rattle.reg_machine.proofs.Views.{width_here, value_here}

@@ -1,4 +1,3 @@
-use Rattle.std.proofs.Common.{◌≡◌}
 use Rattle.field_policies.proofs.BitLemmas.{same_bits}
 use Rattle.reg_machine.proofs.BitMoves.{span_bit}
 use Rattle.reg_machine.proofs.bits.span.Goals as goal

@@ -1,4 +1,4 @@
-use Rattle.std.proofs.Common.{◌≡◌, ap, ◌∙◌, refl}
+use Rattle.std.proofs.Common.{ap, ◌∙◌, refl}
 use Rattle.field_policies.specs.Bits.{bit, all_below, any_below, odd_below}
 use Rattle.field_policies.specs.Expressions.{expr_value, one_if, width_at}
 use Rattle.reg_machine.proofs.Views.{input_fits}

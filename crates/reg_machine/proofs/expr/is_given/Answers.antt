@@ -1,4 +1,4 @@
-use Rattle.std.proofs.Common.{◌≡◌, ap, ◌∙◌, refl}
+use Rattle.std.proofs.Common.{ap, ◌∙◌, refl}
 use Rattle.field_policies.specs.Bits.{bit}
 use Rattle.field_policies.specs.Expressions.{is_given}
 use Rattle.reg_machine.proofs.expr.is_given.Goals as goal

@@ -1,6 +1,5 @@
-use Rattle.std.proofs.Common.{◌≡◌, ap, ◌∙◌, refl}
+use Rattle.std.proofs.Common.{ap, ◌∙◌, refl}
 use mathlib.Core.Bool.{beq}
-use Rattle.field_policies.specs.Bits.{bit}
 use Rattle.field_policies.specs.Expressions.{is_open}
 use Rattle.reg_machine.proofs.Views.{opens_at}
 use Rattle.reg_machine.proofs.expr.is_open.Goals as goal

@@ -1,4 +1,3 @@
-use Rattle.std.proofs.Common.{◌≡◌, ap, ◌∙◌, refl}
 use Rattle.field_policies.specs.Expressions.{is_open}
 use Rattle.field_policies.proofs.BitLemmas.{full_bits}
 use Rattle.reg_machine.proofs.Views.{open_high, open_low}

@@ -1,4 +1,4 @@
-use Rattle.std.proofs.Common.{◌≡◌, ◌∙◌, sym}
+use Rattle.std.proofs.Common.{◌∙◌, sym}
 use Rattle.std.proofs.lemmas.Bool.{cond-true, cond-false}
 use Rattle.reg_machine.proofs.Views.{value_here, width_here, value_below}
 use Rattle.reg_machine.proofs.expr.value_at.Goals as goal

@@ -1,4 +1,3 @@
-use Rattle.std.proofs.Common.{refl}
 use Rattle.reg_machine.specs.Steps.{count_of}
 use Rattle.reg_machine.proofs.hardware.count_of.Goals as goal
 

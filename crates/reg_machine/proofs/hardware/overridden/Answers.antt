@@ -1,4 +1,3 @@
-use Rattle.std.proofs.Common.{◌≡◌}
 use Rattle.field_policies.proofs.BitLemmas.{no_bits, full_bits}
 use Rattle.reg_machine.proofs.hardware.overridden.Goals as goal
 

@@ -1,4 +1,4 @@
-use Rattle.std.proofs.Common.{◌≡◌, ◌≢◌, Some, None, true, false, refl}
+use Rattle.std.proofs.Common.{refl}
 use Rattle.reg_machine.proofs.OneFieldLemmas.{letter_path}
 use Rattle.reg_machine.proofs.maps.plain_field.Goals as goal
 

@@ -1,4 +1,3 @@
-use Rattle.std.proofs.Common.{◌≡◌}
 use Rattle.reg_machine.specs.Machines.{is_accessed}
 use Rattle.reg_machine.proofs.output.is_accessed.Goals as goal
 

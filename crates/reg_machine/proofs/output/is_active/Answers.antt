@@ -1,4 +1,3 @@
-use Rattle.std.proofs.Common.{◌≡◌}
 use Rattle.reg_machine.specs.Steps.{is_software_active}
 use Rattle.reg_machine.proofs.output.is_active.Goals as goal
 

@@ -1,4 +1,4 @@
-use Rattle.std.proofs.Common.{◌≡◌, ◌∙◌}
+use Rattle.std.proofs.Common.{◌∙◌}
 use Rattle.reg_machine.specs.Conditions.{view_of}
 use Rattle.reg_machine.proofs.Views.{value_here}
 use Rattle.reg_machine.proofs.Shows.{raises_intr, raises_other}

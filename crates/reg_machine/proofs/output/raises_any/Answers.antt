@@ -1,4 +1,4 @@
-use Rattle.std.proofs.Common.{◌≡◌, ◌∙◌, ap, sym, Some, slice_get}
+use Rattle.std.proofs.Common.{◌∙◌, ap, sym, slice_get}
 use Rattle.field_policies.specs.Fields.{members_of}
 use Rattle.reg_machine.proofs.output.raises_any.Goals as goal
 

@@ -1,7 +1,6 @@
-use Rattle.std.proofs.Common.{◌≡◌, ◌≢◌, ℕ, ◌/◌, ◌+◌, ◌&&◌, Bool, true, false, eqb, refl, arith, sym, ◌∙◌, ap, slice_index}
+use Rattle.std.proofs.Common.{◌≡◌, ℕ, ◌/◌, ◌+◌, ◌&&◌, false, eqb, refl, sym, ◌∙◌, ap, slice_index}
 use Rattle.std.proofs.lemmas.Bool.{ne_eqb}
 use Rattle.std.proofs.lemmas.Grind.{get_or_default_zero}
-use Rattle.std.proofs.lemmas.Bool.Decides.{nat_tests}
 use Rattle.apb_rules.specs.declared.event.BusEvent.{BusEvent}
 use Rattle.apb_rules.specs.declared.event.BusEvent.TheVariants.{Nothing, Read, Write}
 use Rattle.field_policies.specs.Bits.{bit}

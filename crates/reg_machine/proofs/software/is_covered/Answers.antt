@@ -1,4 +1,3 @@
-use Rattle.std.proofs.Common.{◌≡◌}
 use Rattle.reg_machine.proofs.BitMoves.{all_same}
 use Rattle.reg_machine.proofs.software.is_covered.Goals as goal
 use Rattle.std.proofs.Common.{◌∙◌}

@@ -1,4 +1,4 @@
-use Rattle.std.proofs.Common.{◌≡◌, arith}
+use Rattle.std.proofs.Common.{arith}
 use Rattle.std.proofs.lemmas.Grind.{common_steps}
 use Rattle.reg_machine.specs.Steps.{is_read}
 use Rattle.reg_machine.proofs.software.is_read.Goals as goal

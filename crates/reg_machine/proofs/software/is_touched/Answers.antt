@@ -1,4 +1,3 @@
-use Rattle.std.proofs.Common.{◌≡◌}
 use Rattle.reg_machine.proofs.BitMoves.{any_same}
 use Rattle.reg_machine.proofs.software.is_touched.Goals as goal
 use Rattle.std.proofs.Common.{◌∙◌}

@@ -1,5 +1,5 @@
-use Rattle.std.proofs.Common.{◌≡◌, ◌+◌, ap, sym, ◌∙◌, cond}
-use Rattle.field_policies.specs.Bits.{bit, AreBitsOf}
+use Rattle.std.proofs.Common.{◌+◌, ap, sym, ◌∙◌, cond}
+use Rattle.field_policies.specs.Bits.{bit}
 use Rattle.field_policies.specs.Policies.{write_bit, read_bit}
 use Rattle.field_policies.proofs.BitLemmas.{own_bits, same_bits}
 use Rattle.reg_machine.specs.Steps.{software_bit, payload_of, is_enabled}

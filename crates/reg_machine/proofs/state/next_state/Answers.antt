@@ -1,7 +1,7 @@
 use Rattle.std.proofs.Common.{◌≡◌, arith, subst, length}
 use Rattle.reg_machine.specs.Conditions.{edge_of}
 use Rattle.reg_machine.specs.Nexts.{AreNext}
-use Rattle.reg_machine.proofs.NextLemmas.{next_init, next_more}
+use Rattle.reg_machine.proofs.NextLemmas.{next_more}
 use Rattle.reg_machine.proofs.state.next_state.Goals as goal
 
 pub loop-number-preserved : goal.loop-number-preserved

@@ -1,4 +1,4 @@
-use Rattle.std.proofs.Common.{◌≡◌, refl}
+use Rattle.std.proofs.Common.{refl}
 use Rattle.reg_machine.specs.Steps.{becomes_known}
 use Rattle.reg_machine.proofs.Shows.{flip}
 use Rattle.reg_machine.proofs.turn.becomes_known.Goals as goal

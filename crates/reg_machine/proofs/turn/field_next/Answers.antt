@@ -1,4 +1,3 @@
-use Rattle.std.proofs.Common.{◌≡◌}
 use Rattle.reg_machine.specs.Steps.{next_used, next_known}
 use Rattle.reg_machine.proofs.turn.field_next.Goals as goal
 

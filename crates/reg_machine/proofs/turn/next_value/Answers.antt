@@ -1,8 +1,7 @@
-use Rattle.std.proofs.Common.{◌≡◌, ap, sym, ◌∙◌, cond, not, ◌&&◌}
+use Rattle.std.proofs.Common.{ap, sym, ◌∙◌, not, ◌&&◌}
 use Rattle.field_policies.specs.Bits.{bit}
 use Rattle.field_policies.proofs.BitLemmas.{own_bits, no_bits, same_bits}
-use Rattle.reg_machine.specs.Conditions.{edge_of}
-use Rattle.reg_machine.specs.Steps.{next_bit, software_bit, hardware_bit, software_gives, hardware_gives}
+use Rattle.reg_machine.specs.Steps.{next_bit}
 use Rattle.reg_machine.proofs.BitMoves.{first_side, second_side, no_side}
 use Rattle.reg_machine.proofs.turn.next_value.Goals as goal
 

@@ -1,4 +1,3 @@
-use Rattle.std.proofs.Common.{◌≡◌}
 use Rattle.reg_machine.specs.Steps.{is_software_active, software_gives, hardware_gives}
 use Rattle.reg_machine.proofs.turn.turn_of.Goals as goal
 

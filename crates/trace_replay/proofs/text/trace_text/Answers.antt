@@ -1,4 +1,4 @@
-use Rattle.std.proofs.Common.{◌≡◌, ◌∙◌, ◌++◌, ◌∷◌, [], ap, List, ℕ, length, Bool, codes}
+use Rattle.std.proofs.Common.{◌∙◌, ◌++◌, ◌∷◌, [], ap, length, codes}
 use Rattle.trace_replay.specs.TraceText.{edge_text, field_text}
 use Rattle.trace_replay.proofs.TraceLemmas.{text-step, whole-at}
 use Rattle.trace_replay.proofs.text.trace_text.Goals as goal

@@ -1,6 +1,4 @@
-use Rattle.std.proofs.Common.{◌≡◌, ap, ◌∙◌, not, sym, subst, ◌-◌, ◌^◌, List, ℕ, Bool}
-use Rattle.std.specs.Int.RustNames.{bit_xor}
-use Rattle.field_policies.specs.Bits.{AreBitsOf}
+use Rattle.std.proofs.Common.{ap, ◌∙◌, not, List, ℕ, Bool}
 use Rattle.field_policies.proofs.BitLemmas.{inverse_bits, same_bits}
 use Rattle.reg_machine.specs.Conditions.{edge_of}
 use Rattle.reg_machine.specs.Machines.{counts_bit, hidden_bit}

@@ -1,4 +1,4 @@
-use Rattle.std.proofs.Common.{◌≡◌, ◌∙◌, arith, subst, length, List, ℕ}
+use Rattle.std.proofs.Common.{◌∙◌, arith, subst, length, List, ℕ}
 use Rattle.reg_machine.specs.Conditions.{edge_of}
 use Rattle.reg_machine.specs.Nexts.{AreNext}
 use Rattle.reg_machine.specs.States.{state_of}
