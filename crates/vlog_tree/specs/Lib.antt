@@ -1,2 +1,10 @@
 pub mod Spelling
 pub mod Tokens
+pub mod Terminals
+pub mod Parts
+pub mod Expressions
+pub mod Statements
+pub mod Modules
+pub mod ReadExpressions
+pub mod ReadStatements
+pub mod ReadModules

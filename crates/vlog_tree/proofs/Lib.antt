@@ -1,0 +1,14 @@
+pub mod FoldsExpressions
+pub mod FoldsStatements
+pub mod FoldsModules
+pub mod Sorts
+pub mod Build
+pub mod TokenRules
+pub mod Sets
+pub mod Conjunctions
+pub mod RuleExpressions
+pub mod RuleLevels
+pub mod Endings
+pub mod RuleStatements
+pub mod RuleModules
+pub mod Theorem
