@@ -1,13 +1,12 @@
 -- What the operators on numbers do to each bit, and so to the bits of a field.
-use Rattle.std.proofs.Common.{◌≡◌, ℕ, zero, suc, ◌+◌, ◌-◌, ◌/◌, ◌%◌, ◌^◌, ◌<◌, ◌≤◌, Bool, true, false, not, cond, ◌||◌, ◌&&◌, refl, arith, ap, subst, ◌∙◌, sym, eqb, min, max}
-use Rattle.std.specs.Int.{bit_at, w32}
+use Rattle.std.proofs.Common.{◌≡◌, ℕ, ◌+◌, ◌-◌, ◌%◌, ◌^◌, ◌<◌, Bool, true, false, not, cond, ◌||◌, ◌&&◌, refl, arith, ap, ◌∙◌, sym, eqb, min, max}
 use Rattle.std.specs.Int.Bits.{bit_and, and_lt}
 use Rattle.std.specs.Int.RustNames.{bit_or, bit_xor}
 use Rattle.std.proofs.lemmas.Nat.{or_lt, xor_lt, pow_pos}
-use Rattle.std.proofs.lemmas.Nat.Bits.{bit_at_and, bit_at_or, bit_at_xor, bit_at-lt, bit_at_ones, bit_at-zero, ones_shr, same_from_bits_below}
-use Rattle.std.proofs.lemmas.Grind.{common_steps}
+use Rattle.std.proofs.lemmas.Nat.Bits.{bit_at_and, bit_at_or, bit_at_xor, bit_at-lt, bit_at_ones, bit_at-zero, same_from_bits_below}
 use Rattle.std.proofs.lemmas.Bool.Decides.{nat_tests}
-use Rattle.field_policies.specs.Bits.{bit, differ, AreBitsOf}
+use Rattle.field_policies.specs.Bits.{bit, AreBitsOf}
+use Rattle.bit_base.specs.Operators.{differ}
 
 -- a number below 2 by its test
 digit : (m : ℕ) → m < 2 → m ≡ cond (eqb m 1) 1 0

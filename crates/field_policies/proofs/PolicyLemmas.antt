@@ -1,5 +1,5 @@
 -- No field has two names, and no two names do the same.
-use Rattle.std.proofs.Common.{◌≡◌, ◌≢◌, ℕ, zero, suc, List, [], ◌∷◌, map, length, ◌<◌, ◌↔◌, slice_get, Bool, true, false, not, cond, ◌||◌, ◌&&◌, Some, None, Option, refl, sym, ◌∙◌, ap, subst}
+use Rattle.std.proofs.Common.{◌≡◌, ℕ, zero, suc, List, [], ◌∷◌, map, length, ◌<◌, ◌↔◌, slice_get, Bool, true, false, cond, Some, None, Option, refl, sym, ◌∙◌, ap, subst}
 use Rattle.std.proofs.lemmas.Option.{same_Some, slice_get_within}
 use denote.Enum.Declared.{tag_of}
 use Rattle.field_policies.specs.contracts.policy.Policy.{the_type}
@@ -11,8 +11,7 @@ use Rattle.field_policies.specs.declared.policy.ReadEffect.TheVariants as read
 use Rattle.field_policies.specs.declared.policy.WriteEffect.{WriteEffect}
 use Rattle.field_policies.specs.declared.policy.WriteEffect.TheVariants as write
 use Rattle.field_policies.specs.declared.field.Field.{Field}
-use Rattle.field_policies.specs.Bits.{differ}
-use Rattle.field_policies.specs.Policies.{HasRow, HasPolicy, DoTheSame, NamesDiffer, all_rows, policies, row_of, write_bit, read_bit, written_bit, after_read_bit}
+use Rattle.field_policies.specs.Policies.{HasRow, HasPolicy, NamesDiffer, all_rows, policies, row_of, write_bit, read_bit}
 
 -- the rows stand in the order of the names
 pub row_at : (p : Policy) → slice_get all_rows (tag_of the_type p) ≡ Some (row_of p)

@@ -1,14 +1,10 @@
 -- The bits of a field, and the number that they are kept as: bit i of a number counts 2^i
 -- (IEEE 1364-2005, 4.3 Vectors).
-use Rattle.std.specs.Prelude.{◌≡◌, ℕ, zero, suc, ◌+◌, ◌/◌, ◌%◌, ◌^◌, ◌<◌, Bool, true, false, not, ◌==◌, ◌||◌, ◌&&◌}
+use Rattle.std.specs.Prelude.{◌≡◌, ℕ, zero, suc, ◌/◌, ◌%◌, ◌^◌, ◌<◌, Bool, true, false, ◌==◌, ◌||◌, ◌&&◌}
+use Rattle.bit_base.specs.Operators.{differ}
 
 unfoldable pub bit : ℕ → ℕ → Bool
 bit n i = n / 2 ^ i % 2 == 1
-
--- whether the two are unlike
-abbrev pub differ : Bool → Bool → Bool
-differ false b = b
-differ true b = not b
 
 -- the reductions of the first places (IEEE 1364-2005, 5.1.11): some is true, all are, an odd number of them are
 abbrev pub any_below : ℕ → (ℕ → Bool) → Bool

@@ -1,6 +1,6 @@
 -- What hardware gives to a field's properties, and what fields show (SystemRDL 2.0, clause 9,
 -- hardware access properties, references and the reductions `anded`, `ored`, `xored`).
-use Rattle.std.specs.Prelude.{◌≡◌, ℕ, Bool, true, false, not, List, Option, Some, None, if◌then◌else◌, slice_get, slice_index}
+use Rattle.std.specs.Prelude.{ℕ, Bool, true, false, not, List, Option, Some, None, if◌then◌else◌, slice_get, slice_index}
 use Rattle.std.specs.Option.{option_map_or}
 use Rattle.field_policies.specs.declared.field.Field.{Field}
 use Rattle.field_policies.specs.declared.signal.HwExpr.{HwExpr}

@@ -1,5 +1,5 @@
 -- The form of a field's path (SystemRDL 2.0, clause 5, instance names and arrays).
-use Rattle.std.specs.Prelude.{◌≡◌, ◌≢◌, ℕ, Bool, true, false, ◌==◌, ◌||◌, ◌&&◌, List, [], ◌∷◌, ◌++◌, Option, Some, None, nat_le, IsTrue, slice_get}
+use Rattle.std.specs.Prelude.{◌≡◌, ◌≢◌, ℕ, Bool, false, ◌==◌, ◌||◌, ◌&&◌, List, [], ◌∷◌, ◌++◌, Option, Some, None, nat_le, IsTrue, slice_get}
 use Rattle.std.specs.List.{list_all}
 
 abbrev pub is_letter : ℕ → Bool

@@ -7,7 +7,7 @@ use Rattle.field_policies.specs.declared.signal.HwExpr.TheVariants.{Input, Value
 use Rattle.field_policies.specs.declared.signal.HwInput.{HwInput}
 use Rattle.field_policies.specs.declared.signal.Gate.{Gate}
 use Rattle.field_policies.specs.declared.extra.Extra.{Extra}
-use Rattle.field_policies.specs.declared.extra.Extra.TheVariants.{Plain, Counter, Intr}
+use Rattle.field_policies.specs.declared.extra.Extra.TheVariants.{Counter, Intr}
 
 abbrev pub is_counter : Extra → Bool
 is_counter (Counter c) = true

@@ -1,13 +1,12 @@
 -- What holds of a valid register map, topic by topic.
-use Rattle.std.specs.Prelude.{◌≡◌, ◌≢◌, ℕ, ◌+◌, ◌*◌, ◌/◌, ◌%◌, ◌^◌, ◌<◌, ◌≤◌, Bool, true, false, ◌==◌, ◌||◌, List, [], Option, Some, None, IsTrue, length, slice_get, sum_by}
+use Rattle.std.specs.Prelude.{◌≡◌, ◌≢◌, ℕ, ◌+◌, ◌/◌, ◌%◌, ◌^◌, ◌<◌, ◌≤◌, Bool, true, false, ◌==◌, ◌||◌, List, [], Some, None, IsTrue, length, slice_get, sum_by}
 use Rattle.field_policies.specs.declared.field.Field.{Field}
-use Rattle.field_policies.specs.declared.policy.ReadEffect.{ReadEffect}
 use Rattle.field_policies.specs.declared.policy.ReadEffect.TheVariants.{Keep}
 use Rattle.field_policies.specs.declared.signal.HwInput.{HwInput}
 use Rattle.field_policies.specs.declared.extra.Extra.TheVariants as extra
 use Rattle.field_policies.specs.declared.extra.Counter.{Counter}
 use Rattle.field_policies.specs.FieldPath.{IsFieldPath}
-use Rattle.field_policies.specs.Fields.{is_counter, is_intr, filter_of, members_of, is_in_range, has_width, EachExpr}
+use Rattle.field_policies.specs.Fields.{is_counter, is_intr, members_of, is_in_range, has_width, EachExpr}
 
 abbrev pub EachField : List Field → (Field → Type 0) → Type 0
 EachField fields P = (i : ℕ) (f : Field) → slice_get fields i ≡ Some f → P f

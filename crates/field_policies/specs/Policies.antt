@@ -8,7 +8,7 @@ use Rattle.field_policies.specs.declared.policy.ReadEffect.TheVariants as read
 use Rattle.field_policies.specs.declared.policy.WriteEffect.{WriteEffect}
 use Rattle.field_policies.specs.declared.policy.WriteEffect.TheVariants as write
 use Rattle.field_policies.specs.declared.field.Field.{Field}
-use Rattle.field_policies.specs.Bits.{differ}
+use Rattle.bit_base.specs.Operators.{differ}
 
 -- what a write makes of a bit, from its value and the written bit (SystemRDL 2.0, clause 9, `onwrite`)
 abbrev pub write_bit : WriteEffect → Bool → Bool → Bool

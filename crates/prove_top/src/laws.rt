@@ -1,6 +1,6 @@
 //! Laws of the definitions that the readers are proved against.
 
-ghost use Rattle.prove_top.specs.Laws.{OneSpelling, ReadsWhatIsSpelled};
+ghost use Rattle.prove_top.specs.Laws.{OneSpelling, ReadsWhatIsSpelled, SampledIsFirst};
 
 /// Two expressions whose digits are hexadecimal and that are spelled alike are equal.
 pub fn one_spelling()
@@ -10,4 +10,9 @@ pub fn one_spelling()
 /// A Verilog text is read as two expressions exactly where it spells them.
 pub fn reads_what_is_spelled()
     ensures { ReadsWhatIsSpelled }
+{}
+
+/// The sampled run is a joint run under a legal master, and the sampled difference is its first.
+pub fn sampled_is_first()
+    ensures { SampledIsFirst }
 {}

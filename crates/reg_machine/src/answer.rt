@@ -37,17 +37,10 @@ pub fn shown_bits(
 
 /// The bits of the bus word that the field of this number hides from the event: all of its own,
 /// where it isn't known.
-pub fn hidden_bits(
-    map: &RegMap,
-    values: &[u32],
-    known: &[bool],
-    hw: &[u32],
-    event: BusEvent,
-    number: usize,
-) -> u32
+pub fn hidden_bits(map: &RegMap, known: &[bool], event: BusEvent, number: usize) -> u32
     requires there { number < length map.now.fields.items }
     requires known { length known.now ≡ length map.now.fields.items }
-    ensures { AreBitsOf map.now.bus_width (λ j. hides (edge_of map.now values.now hw.now event) known.now j number) result }
+    ensures { (values hw : List ℕ) → AreBitsOf map.now.bus_width (λ j. hides (edge_of map.now values hw event) known.now j number) result }
 {
     let field = field_at(map, number);
     if reads_word(map, event, field) & field.readable & !known[number] {
@@ -83,13 +76,13 @@ pub fn shown_word(map: &RegMap, values: &[u32], known: &[bool], hw: &[u32], even
 }
 
 /// The bits of the bus word that fields hide from the event.
-pub fn hidden_word(map: &RegMap, values: &[u32], known: &[bool], hw: &[u32], event: BusEvent) -> u32
+pub fn hidden_word(map: &RegMap, known: &[bool], event: BusEvent) -> u32
     requires known { length known.now ≡ length map.now.fields.items }
-    ensures { AreBitsOf map.now.bus_width (hidden_bit (edge_of map.now values.now hw.now event) known.now) result }
+    ensures { (values hw : List ℕ) → AreBitsOf map.now.bus_width (hidden_bit (edge_of map.now values hw event) known.now) result }
 {
     let mut word = 0;
     for number in 0..map.fields.len() {
-        word |= hidden_bits(map, values, known, hw, event, number);
+        word |= hidden_bits(map, known, event, number);
     }
     word
 }

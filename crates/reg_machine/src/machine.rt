@@ -76,7 +76,7 @@ impl Machine {
         Answer {
             payload: shown_word(map, values, known, hw, event),
             error: unmapped_error & is_unmapped(map, event),
-            counts: hidden_word(map, values, known, hw, event) ^ ones(map.bus_width),
+            counts: hidden_word(map, known, event) ^ ones(map.bus_width),
         }
     }
 

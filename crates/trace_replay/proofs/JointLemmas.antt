@@ -5,7 +5,8 @@ use Rattle.std.specs.Int.RustNames.{bit_xor}
 use Rattle.std.proofs.lemmas.Option.{slice_get_within}
 use Rattle.field_policies.specs.declared.field.Field.{Field}
 use Rattle.field_policies.specs.Maps.{EachField}
-use Rattle.field_policies.specs.Bits.{bit, differ, any_below, AreBitsOf}
+use Rattle.field_policies.specs.Bits.{bit, any_below, AreBitsOf}
+use Rattle.bit_base.specs.Operators.{differ}
 use Rattle.field_policies.proofs.BitLemmas.{own_bits, and_bits, xor_bits}
 use Rattle.reg_machine.specs.Conditions.{IsState}
 use Rattle.reg_machine.specs.declared.machine.Machine.{Machine}

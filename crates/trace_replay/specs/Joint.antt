@@ -10,7 +10,8 @@ use Rattle.apb_rules.specs.declared.event.BusEvent.TheVariants.{Nothing, Read, W
 use Rattle.apb_rules.specs.declared.phase.Phase.TheVariants.{Free}
 use Rattle.apb_rules.specs.declared.wires.BusWires.{BusWires}
 use Rattle.apb_rules.specs.declared.wires.Choice.{Choice}
-use Rattle.field_policies.specs.Bits.{bit, differ, any_below}
+use Rattle.field_policies.specs.Bits.{bit, any_below}
+use Rattle.bit_base.specs.Operators.{differ}
 use Rattle.field_policies.specs.declared.signal.OutSignal.TheVariants as out
 use Rattle.reg_machine.specs.Machines.{answer_bit, counts_bit, is_unmapped, output_of, always_counts}
 use Rattle.reg_machine.specs.States.{State, reset_state, next_state, known_in}
@@ -119,20 +120,20 @@ abbrev pub wrong_output : FlatBlock → State → BusEvent → Outputs → Bool
 wrong_output block machine event shown = (always_counts out.Value || known_in machine 0)
     && not (shown.value == output_of (edge_at block machine event) machine.used 0 out.Value)
 
--- the first difference that holds, in the order of the four
-abbrev pub difference_of : FlatBlock → JointParts → BusWires → BusEvent → Outputs → Option Difference
-difference_of block state wires event shown =
-    if is_waiting wires shown && nat_le WAIT state.waited then Some Wait
+-- the first difference that holds, in the order of the four, where the transfer has waited too long or not
+abbrev pub difference_of : FlatBlock → State → Bool → BusEvent → Outputs → Option Difference
+difference_of block machine late event shown =
+    if late then Some Wait
     else if wrong_error (machine_error block event) event shown then Some Error
-    else if wrong_data block state.machine event shown then Some ReadData
-    else if wrong_output block state.machine event shown then Some (Output 0)
+    else if wrong_data block machine event shown then Some ReadData
+    else if wrong_output block machine event shown then Some (Output 0)
     else None
 
 -- the difference of an edge; a reset edge has none
 abbrev pub difference_at : FlatBlock → JointParts → BusWires → Option Difference
 difference_at block state wires =
     if in_reset state then None
-    else difference_of block state wires (event_at block state wires) (shown_at block state wires)
+    else difference_of block state.machine (is_waiting wires (shown_at block state wires) && nat_le WAIT state.waited) (event_at block state wires) (shown_at block state wires)
 
 -- the wires of a run: each choice drives them in the state that the edges before it left
 abbrev pub wires_from : FlatBlock → JointParts → List Choice → List BusWires

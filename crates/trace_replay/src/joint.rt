@@ -2,7 +2,8 @@
 
 ghost use Rattle.std.specs.Prelude.{◌≡◌, ◌<◌, ◌&&◌, ℕ, Bool, not, length, IfOk, IfSome};
 ghost use Rattle.field_policies.specs.Bits.{AreBitsOf};
-ghost use Rattle.trace_replay.specs.Joint.{start_of, in_reset, wires_of, pins_of, shown_at, state_after, is_read, is_waiting, unlike, wrong_error, wrong_output, difference_at, waited_after, wires_from, first_difference};
+ghost use Rattle.trace_replay.specs.Runs.{JointRun, IsJointRun, IsFirst};
+ghost use Rattle.trace_replay.specs.Joint.{start_of, in_reset, wires_of, pins_of, shown_at, state_after, is_read, is_waiting, unlike, wrong_error, wrong_output, difference_at, waited_after, wires_from, first_from, first_difference};
 
 use crate::block::{Block, Outputs};
 use crate::pins::Pins;
@@ -239,6 +240,22 @@ pub fn run_wires(
     Ok(run)
 }
 
+/// The first edge with a difference of the run under these wires, from this state on, and that
+/// difference.
+fn first_from(block: &Block, start: JointState, run: &[BusWires]) -> Option<(usize, Difference)>
+    ensures first { result ≡ first_from block.now start 0 run.now }
+    ensures inside { IfSome result (λ found. found.0 < length run.now) }
+{
+    let mut state = start;
+    for (edge, wires) in run.iter().enumerate() {
+        if let Some(difference) = state.difference(block, *wires) {
+            return Some((edge, difference));
+        }
+        state.step(block, *wires);
+    }
+    None
+}
+
 /// The first edge with a difference of the run under these wires, where the block's register
 /// starts with `register`, and that difference.
 pub fn first_difference(
@@ -248,14 +265,9 @@ pub fn first_difference(
     run: &[BusWires],
 ) -> Result<Option<(usize, Difference)>, AllocError>
     ensures first { IfOk result (λ found. found ≡ first_difference block.now register run.now) }
+    ensures earliest { IfOk result (λ found. (joint : JointRun) → IsJointRun block.now run.now joint → joint.register 0 ≡ register → IsFirst block.now run.now joint found) }
     ensures inside { IfOk result (λ found. IfSome found (λ at. at.0 < length run.now)) }
 {
-    let mut state = start(alloc, block, register)?;
-    for (edge, wires) in run.iter().enumerate() {
-        if let Some(difference) = state.difference(block, *wires) {
-            return Ok(Some((edge, difference)));
-        }
-        state.step(block, *wires);
-    }
-    Ok(None)
+    let start = start(alloc, block, register)?;
+    Ok(first_from(block, start, run))
 }

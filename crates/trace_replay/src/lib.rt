@@ -5,6 +5,7 @@
 pub mod block;
 pub mod expression;
 pub mod joint;
+pub mod laws;
 pub mod map;
 pub mod pins;
 pub mod text;

@@ -1,6 +1,4 @@
 -- Each arm is the operator on numbers that does to every bit what the effect says.
-use Rattle.std.proofs.Common.{◌≡◌, ◌-◌, ◌^◌, ap, subst}
-use Rattle.field_policies.specs.Bits.{bit, AreBitsOf}
 use Rattle.field_policies.proofs.BitLemmas.{own_bits, no_bits, full_bits, and_bits, or_bits, xor_bits, inverse_bits}
 use Rattle.field_policies.proofs.effect.write_result.Goals as goal
 

@@ -1,8 +1,8 @@
-use Rattle.std.proofs.Common.{◌≡◌, ◌<◌, ℕ, true, false, Some, None, slice_get, length, refl, sym, ◌∙◌, ap, subst, below_more, arith, List}
+use Rattle.std.proofs.Common.{◌≡◌, true, false, Some, slice_get, refl, sym, ◌∙◌, subst, below_more, arith, List}
 use Rattle.std.proofs.lemmas.Option.{same_Some}
 use Rattle.field_policies.specs.declared.policy.PolicyRow.{PolicyRow}
 use Rattle.field_policies.specs.declared.policy.Policy.{Policy}
-use Rattle.field_policies.specs.Policies.{HasRow, HasPolicy, all_rows}
+use Rattle.field_policies.specs.Policies.{HasRow, HasPolicy}
 use Rattle.field_policies.proofs.PolicyLemmas.{one_found, none_found}
 use Rattle.field_policies.proofs.table.policy_of.Goals as goal
 
