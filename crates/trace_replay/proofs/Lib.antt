@@ -1,6 +1,6 @@
 mod ExpressionLemmas
 mod FirstMap
 mod JointLemmas
-pub mod RunLaws
-pub mod RunLemmas
+pub mod JointLaws
+pub mod JointRuns
 mod TraceLemmas

@@ -5,8 +5,8 @@
 pub mod block;
 pub mod expression;
 pub mod joint;
-pub mod laws;
 pub mod map;
 pub mod pins;
+pub mod runs;
 pub mod text;
 pub mod trace;

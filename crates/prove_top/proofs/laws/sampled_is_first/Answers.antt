@@ -1,5 +1,5 @@
-use Rattle.trace_replay.proofs.RunLaws.{run_is_legal}
-use Rattle.trace_replay.proofs.RunLemmas.{first_is_earliest}
+use Rattle.trace_replay.proofs.JointLaws.{run_is_legal}
+use Rattle.trace_replay.proofs.JointRuns.{first_is_earliest}
 use Rattle.prove_top.specs.Sampled.{choices_to, sample_bits, sampled_register, sampled_wires}
 use Rattle.prove_top.specs.declared.sampled.TheConstants.{EDGES}
 use Rattle.prove_top.proofs.laws.sampled_is_first.Goals as goal

@@ -2,7 +2,7 @@ use Rattle.std.proofs.Common.{◌≡◌, ◌∙◌, ℕ, Option, ap, subst, sym}
 use Rattle.trace_replay.specs.declared.joint.Difference.{Difference}
 use Rattle.trace_replay.specs.Joint.{first_difference, first_from}
 use Rattle.trace_replay.specs.Runs.{IsFirst}
-use Rattle.trace_replay.proofs.RunLemmas.{first_is_earliest}
+use Rattle.trace_replay.proofs.JointRuns.{first_is_earliest}
 use Rattle.trace_replay.proofs.joint.first_difference.Goals as goal
 
 pub returns-clause-earliest : goal.returns-clause-earliest

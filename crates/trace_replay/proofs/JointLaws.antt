@@ -19,7 +19,7 @@ use Rattle.trace_replay.specs.Blocks.{FlatBlock}
 use Rattle.trace_replay.specs.States.{JointParts}
 use Rattle.trace_replay.specs.Joint.{start_of, in_reset, wires_of, event_at, taken_at, edge_at, state_after, wires_from}
 use Rattle.trace_replay.specs.Runs.{JointRun, IsJointRun, HasJointRun, SameRun, IsLegalRun, pins_in}
-use Rattle.trace_replay.proofs.RunLemmas.{Stands, past_reset_edge, stands_first, stands_next}
+use Rattle.trace_replay.proofs.JointRuns.{Stands, past_reset_edge, stands_first, stands_next}
 
 module _ (block : FlatBlock) where
   -- the state after these edges

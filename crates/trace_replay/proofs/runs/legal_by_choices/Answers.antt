@@ -1,5 +1,5 @@
-use Rattle.trace_replay.proofs.RunLaws.{run_is_legal, run_is_driven}
-use Rattle.trace_replay.proofs.laws.legal_by_choices.Goals as goal
+use Rattle.trace_replay.proofs.JointLaws.{run_is_legal, run_is_driven}
+use Rattle.trace_replay.proofs.runs.legal_by_choices.Goals as goal
 
 pub returns-clause-drives_legal : goal.returns-clause-drives_legal
 returns-clause-drives_legal c = run_is_legal

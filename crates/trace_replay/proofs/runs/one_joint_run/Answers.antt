@@ -1,5 +1,5 @@
-use Rattle.trace_replay.proofs.RunLaws.{run_there, run_once}
-use Rattle.trace_replay.proofs.laws.one_joint_run.Goals as goal
+use Rattle.trace_replay.proofs.JointLaws.{run_there, run_once}
+use Rattle.trace_replay.proofs.runs.one_joint_run.Goals as goal
 
 pub returns-clause-there : goal.returns-clause-there
 returns-clause-there c = λ block wires register. run_there block register wires
