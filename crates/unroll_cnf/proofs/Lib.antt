@@ -1,0 +1,13 @@
+pub mod EachLemmas
+pub mod LiteralLemmas
+pub mod PlaceLemmas
+pub mod FrameLemmas
+pub mod RunLemmas
+pub mod SetLemmas
+pub mod QueryLemmas
+pub mod PushLemmas
+pub mod PlaceLoops
+pub mod DistinctLemmas
+pub mod OverLemmas
+pub mod ModelLemmas
+pub mod ClauseLemmas

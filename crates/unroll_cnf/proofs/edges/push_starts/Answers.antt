@@ -1,0 +1,6 @@
+use Rattle.unroll_cnf.specs.Queries.{start_clauses}
+use Rattle.unroll_cnf.proofs.PushLemmas.{pushed_node}
+use Rattle.unroll_cnf.proofs.edges.push_starts.Goals as goal
+
+pub loop-i-preserved : goal.loop-i-preserved
+loop-i-preserved c = pushed_node (start_clauses c.args.circuit.now.latches.items c.first_variable-first.result) c.loop-i.i c.args.circuit.now.graph _ _ _ _ c.node.ensures.node c.in_ok-push_started.ensures c.loop-i.invariant

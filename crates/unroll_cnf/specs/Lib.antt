@@ -1,0 +1,5 @@
+pub mod Latches
+pub mod Runs
+pub mod Queries
+pub mod Meaning
+pub mod Laws
