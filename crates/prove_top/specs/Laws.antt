@@ -5,8 +5,9 @@ use Rattle.prove_top.specs.declared.verilog.Drivers.{Drivers}
 use Rattle.prove_top.specs.Verilog.{drivers_of, verilog_text, AreFirstForm}
 use Rattle.prove_top.specs.Spelling.{spelling, has_digits}
 use Rattle.trace_replay.specs.declared.block.Block.{Block}
-use Rattle.trace_replay.specs.Runs.{JointRun, IsJointRun, IsLegalRun, IsFirst}
-use Rattle.prove_top.specs.Sampled.{sampled, sampled_register, sampled_wires}
+use Rattle.trace_replay.specs.Runs.{JointRun, IsJointRun, IsDriven, IsLegalRun, IsFirst}
+use Rattle.prove_top.specs.Sampled.{choices_to, sample_bits, sampled, sampled_register, sampled_wires}
+use Rattle.prove_top.specs.declared.sampled.TheConstants.{EDGES}
 
 -- two expressions with one spelling are equal
 abbrev pub OneSpelling : Type 0
@@ -17,8 +18,8 @@ OneSpelling = (a b : Expression) → has_digits a ≡ true → has_digits b ≡ 
 abbrev pub ReadsWhatIsSpelled : Type 0
 ReadsWhatIsSpelled = (bytes : List ℕ) (drivers : Drivers) → (drivers_of bytes ≡ Some drivers) ↔ (AreFirstForm drivers × (bytes ≡ verilog_text drivers))
 
--- in the joint run that the sampled register and wires give, the wires are a legal master's, and the
--- sampled difference is the first that an edge has
+-- in the joint run that the sampled register and wires give, the wires are those that the drawn choices
+-- drive, and a legal master's, and the sampled difference is the first that an edge has
 abbrev pub SampledIsFirst : Type 0
 SampledIsFirst = (block : Block) (seed : ℕ) (run : JointRun) → IsJointRun block (sampled_wires block seed) run → run.register 0 ≡ sampled_register seed
-    → IsLegalRun block (sampled_wires block seed) run × IsFirst block (sampled_wires block seed) run (sampled block seed)
+    → IsDriven block (sampled_wires block seed) run (choices_to (sample_bits seed) EDGES) × IsLegalRun block (sampled_wires block seed) run × IsFirst block (sampled_wires block seed) run (sampled block seed)

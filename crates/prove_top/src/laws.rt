@@ -12,7 +12,8 @@ pub fn reads_what_is_spelled()
     ensures { ReadsWhatIsSpelled }
 {}
 
-/// The sampled run is a joint run under a legal master, and the sampled difference is its first.
+/// The wires of the sampled run are those that the drawn choices drive, and a legal master's, and the
+/// sampled difference is the first of its joint run.
 pub fn sampled_is_first()
     ensures { SampledIsFirst }
 {}

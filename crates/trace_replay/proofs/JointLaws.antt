@@ -1,10 +1,10 @@
 -- Each register and list of wires has one joint run, and the wires of a master's choices are legal in it.
-use Rattle.std.proofs.Common.{◌≡◌, ℕ, zero, suc, ◌+◌, ◌≤◌, min, Bool, true, false, not, ◌&&◌, cond, List, [], ◌∷◌, length, take, map, Some, slice_get, nat_lt, refl, arith, ap, subst, ◌∙◌, sym, add-one}
+use Rattle.std.proofs.Common.{◌≡◌, ℕ, zero, suc, ◌+◌, ◌≤◌, min, Bool, true, false, not, ◌&&◌, cond, List, [], ◌∷◌, length, take, map, Option, Some, None, slice_get, nat_lt, refl, arith, ap, subst, ◌∙◌, sym, add-one}
 use Rattle.std.specs.List.{All, enumerate_from}
+use Rattle.std.specs.Option.{option_map_or}
 use Rattle.std.proofs.lemmas.Bool.{cond-true, cond-false}
 use Rattle.std.proofs.lemmas.Option.{same_Some}
 use Rattle.std.proofs.lemmas.List.Elements.{All-nil, All-cons}
-use Rattle.apb_rules.specs.declared.style.BusStyle.{BusStyle}
 use Rattle.apb_rules.specs.declared.wires.BusWires.{BusWires}
 use Rattle.apb_rules.specs.declared.wires.Choice.{Choice}
 use Rattle.apb_rules.specs.declared.phase.Phase.{Phase}
@@ -18,7 +18,7 @@ use Rattle.reg_machine.specs.States.{next_state}
 use Rattle.trace_replay.specs.Blocks.{FlatBlock}
 use Rattle.trace_replay.specs.States.{JointParts}
 use Rattle.trace_replay.specs.Joint.{start_of, in_reset, wires_of, event_at, taken_at, edge_at, state_after, wires_from}
-use Rattle.trace_replay.specs.Runs.{JointRun, IsJointRun, HasJointRun, SameRun, IsLegalRun, pins_in}
+use Rattle.trace_replay.specs.Runs.{JointRun, IsJointRun, HasJointRun, SameRun, IsDriven, IsLegalRun, pins_in, plain, shown_in}
 use Rattle.trace_replay.proofs.JointRuns.{Stands, past_reset_edge, stands_first, stands_next}
 
 module _ (block : FlatBlock) where
@@ -113,14 +113,14 @@ module _ (block : FlatBlock) where
 
 -- ---- what choices drive
 
-abbrev plain : BusStyle
-plain = record { strobe = false; prot = false }
-
 abbrev ready_edge : BusWires → BusEdge
 ready_edge w = record { wires = w; ready = true }
 
+abbrev with_ready : Choice → Bool → Move
+with_ready choice ready = record { choice = record choice { strobe = 0; prot = 0 }; ready = ready }
+
 abbrev plain_move : Choice → Move
-plain_move choice = record { choice = record choice { strobe = 0; prot = 0 }; ready = true }
+plain_move choice = with_ready choice true
 
 same_edges : (n : ℕ) (wires : List BusWires) → map (λ (p : ℕ × BusWires). ready_edge p.1) (enumerate_from n wires) ≡ map ready_edge wires
 same_edges n [] = refl
@@ -159,6 +159,23 @@ module _ (block : FlatBlock) where
   fits [] = All-nil (λ move. FitsBus 1 move.choice)
   fits (choice ∷ choices) = All-cons (λ move. FitsBus 1 move.choice) _ _ (record { strobe_fits = omega arith; prot_fits = omega arith }) (fits choices)
 
+  -- the block is ready at every edge
+  all_ready : (wires : List BusWires) (run : JointRun) (o : Option BusWires) (e : ℕ) → option_map_or (λ w. (shown_in block wires run e w).ready) o true ≡ true
+  all_ready wires run None e = refl
+  all_ready wires run (Some w) e = refl
+
+  ready_moves : (wires : List BusWires) (run : JointRun) (n : ℕ) (choices : List Choice)
+      → map (λ (p : ℕ × Choice). with_ready p.1 (option_map_or (λ w. (shown_in block wires run p.0 w).ready) (slice_get wires p.0) true)) (enumerate_from n choices) ≡ map plain_move choices
+  ready_moves wires run n [] = refl
+  ready_moves wires run n (choice ∷ choices) =
+      ap (λ r. with_ready choice r ∷ map (λ (p : ℕ × Choice). with_ready p.1 (option_map_or (λ w. (shown_in block wires run p.0 w).ready) (slice_get wires p.0) true)) (enumerate_from (n + 1) choices)) (all_ready wires run (slice_get wires n) n)
+      ∙ ap (λ rest. plain_move choice ∷ rest) (ready_moves wires run (n + 1) choices)
+
+  pub run_is_driven : (register : ℕ) (choices : List Choice) (run : JointRun) → IsDriven block (wires_from block (start_of block register) choices) run choices
+  run_is_driven register choices run =
+      same_edges 0 (wires_from block (start_of block register) choices) ∙ all_edges register choices
+      ∙ ap (λ moves. edges_of plain 1 Free (calm 1 moves)) (sym (ready_moves (wires_from block (start_of block register) choices) run 0 choices))
+
   pub run_is_legal : (register : ℕ) (choices : List Choice) (run : JointRun) → IsLegalRun block (wires_from block (start_of block register) choices) run
   run_is_legal register choices run =
       subst (λ edges. IsLegalMaster plain 1 1 edges) (sym (same_edges 0 (wires_from block (start_of block register) choices) ∙ all_edges register choices))
@@ -190,8 +207,8 @@ module _ (block : FlatBlock) where
   just_wires [] = refl
   just_wires (w ∷ wires) = ap (λ rest. w ∷ rest) (just_wires wires)
 
-  pub run_is_driven : (register : ℕ) (wires : List BusWires) (run : JointRun) → IsLegalRun block wires run → wires_from block (start_of block register) (map choice_of wires) ≡ wires
-  run_is_driven register wires run legal =
+  pub legal_is_run : (register : ℕ) (wires : List BusWires) (run : JointRun) → IsLegalRun block wires run → wires_from block (start_of block register) (map choice_of wires) ≡ wires
+  legal_is_run register wires run legal =
       let ready : IsLegalMaster plain 1 1 (map ready_edge wires) = subst (λ edges. IsLegalMaster plain 1 1 edges) (same_edges 0 wires) legal in
       let edges : map ready_edge (wires_from block (start_of block register) (map choice_of wires)) ≡ map ready_edge wires =
       all_edges register (map choice_of wires) ∙ same_calm wires ∙ ap (λ moves. edges_of plain 1 Free (calm 1 moves)) (sym (own_moves wires)) ∙ master_is_driven plain 1 1 (map ready_edge wires) ready in

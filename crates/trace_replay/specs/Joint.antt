@@ -61,7 +61,7 @@ outputs_at block pins register = record {
 abbrev pub taken_at : FlatBlock → Pins → ℕ → ℕ
 taken_at block pins register = expression_value block.next pins register
 
--- the same before an edge of the run
+-- what it shows before an edge of the run
 abbrev pub shown_at : FlatBlock → JointParts → BusWires → Outputs
 shown_at block state wires = outputs_at block (pins_of state wires) state.register
 

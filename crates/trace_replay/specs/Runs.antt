@@ -1,13 +1,17 @@
 -- A joint run as a whole: what the block's register and the register machine hold before each edge,
 -- under the wires of a legal master (AMBA APB, transfers; the machine beside the block is this
 -- project's own).
-use Rattle.std.specs.Prelude.{◌≡◌, ℕ, ◌+◌, ◌-◌, ◌<◌, ◌≤◌, nat_le, nat_lt, Bool, false, ◌&&◌, if◌then◌else◌, Option, Some, None, List, length, map, slice_get}
+use Rattle.std.specs.Prelude.{◌≡◌, ℕ, ◌+◌, ◌-◌, ◌<◌, ◌≤◌, nat_le, nat_lt, Bool, true, false, ◌&&◌, if◌then◌else◌, Option, Some, None, List, length, map, slice_get}
 use Rattle.std.specs.Option.{option_and_then, option_map_or}
 use Rattle.std.specs.List.{enumerate_from}
 use Rattle.apb_rules.specs.Events.{bus_event}
 use Rattle.apb_rules.specs.Master.{BusEdge, IsLegalMaster}
+use Rattle.apb_rules.specs.Moves.{Move, calm, edges_of}
 use Rattle.apb_rules.specs.declared.event.BusEvent.{BusEvent}
+use Rattle.apb_rules.specs.declared.phase.Phase.TheVariants.{Free}
+use Rattle.apb_rules.specs.declared.style.BusStyle.{BusStyle}
 use Rattle.apb_rules.specs.declared.wires.BusWires.{BusWires}
+use Rattle.apb_rules.specs.declared.wires.Choice.{Choice}
 use Rattle.field_policies.specs.Bits.{all_below}
 use Rattle.reg_machine.specs.States.{State, reset_state, next_state}
 use Rattle.trace_replay.specs.declared.joint.TheConstants.{RESET_EDGES, WAIT}
@@ -16,6 +20,10 @@ use Rattle.trace_replay.specs.declared.block.Outputs.{Outputs}
 use Rattle.trace_replay.specs.declared.pins.Pins.{Pins}
 use Rattle.trace_replay.specs.Blocks.{FlatBlock}
 use Rattle.trace_replay.specs.Joint.{outputs_at, taken_at, edge_at, is_waiting, difference_of}
+
+-- a bus without PSTRB and PPROT
+abbrev pub plain : BusStyle
+plain = record { strobe = false; prot = false }
 
 -- before the edge of each number: the block's register and the machine's state
 pub record JointRun : Type 0 where
@@ -48,7 +56,19 @@ module _ (block : FlatBlock) (wires : List BusWires) (run : JointRun) where
 
   -- the wires are those of a legal master on a bus of one byte, without strobes and protection
   abbrev pub IsLegalRun : Type 0
-  IsLegalRun = IsLegalMaster (record { strobe = false; prot = false }) 1 RESET_EDGES bus_edges
+  IsLegalRun = IsLegalMaster plain 1 RESET_EDGES bus_edges
+
+  -- the block's own PREADY at an edge, and the moves of these choices with it
+  abbrev pub ready_in : ℕ → Bool
+  ready_in e = option_map_or (λ w. (shown_in e w).ready) (slice_get wires e) true
+
+  abbrev pub moves_in : List Choice → List Move
+  moves_in choices = map (λ p. record { choice = record p.1 { strobe = 0; prot = 0 }; ready = ready_in p.0 }) (enumerate_from 0 choices)
+
+  -- the wires are those that these choices drive, one choice for each edge; none starts a transfer at
+  -- a reset edge
+  abbrev pub IsDriven : List Choice → Type 0
+  IsDriven choices = bus_edges ≡ edges_of plain 1 Free (calm RESET_EDGES (moves_in choices))
 
   -- PREADY is 0 at an edge of an access phase
   abbrev pub waits_in : ℕ → Bool
