@@ -1,0 +1,13 @@
+pub mod Table
+pub mod Digits
+pub mod Loops
+pub mod NumberLengths
+pub mod Longest
+pub mod PlaceSteps
+pub mod Scanning
+pub mod Behind
+pub mod Files
+pub mod Levels
+pub mod Answers
+pub mod Fine
+pub mod Refusals

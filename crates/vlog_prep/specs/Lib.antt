@@ -1,0 +1,11 @@
+pub mod Lexemes
+pub mod Lengths
+pub mod Places
+pub mod Pieces
+pub mod Reading
+pub mod Prepared
+pub mod Table
+pub mod Scanned
+pub mod Seen
+pub mod Behind
+pub mod Files
