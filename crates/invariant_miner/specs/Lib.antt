@@ -1,0 +1,4 @@
+pub mod Draws
+pub mod Lanes
+pub mod Samples
+pub mod Candidates
