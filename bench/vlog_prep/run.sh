@@ -8,7 +8,7 @@ work="$(mktemp -d)"
 trap 'rm -rf "$work"' EXIT
 mkdir -p "$work/crates/read_vlog/src"
 cp "$top/HANDLES" "$work/"
-for crate in bit_base vlog_tree vlog_prep; do
+for crate in bit_base parsing vlog_tree vlog_prep; do
     cp -r "$top/crates/$crate" "$work/crates/$crate"
     grep "^$crate:" "$top/crates.txt" >> "$work/crates.txt"
 done
