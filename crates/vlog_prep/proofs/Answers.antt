@@ -1,6 +1,6 @@
 -- That the bytes of the files determine what preparing answers, but for want of memory.
-use Rattle.std.proofs.Common.{◌≡◌, ◌≢◌, ℕ, ◌+◌, ◌-◌, ◌<◌, ◌≤◌, ◌⊎◌, inl, inr, Bool, true, false, List, [], ◌∷◌, ◌++◌, length, take, drop, get_or, reverse, refl, sym, ◌∙◌, ap, subst, arith, append_assoc, length-append}
-use Rattle.std.specs.Prelude.{◌&&◌, not, Some, Result, Ok, Err}
+use Rattle.std.proofs.Common.{◌≡◌, ◌≢◌, ℕ, ◌<◌, ◌≤◌, inl, inr, true, List, [], ◌∷◌, ◌++◌, length, take, drop, get_or, reverse, refl, sym, ◌∙◌, ap, subst, arith, append_assoc, length-append}
+use Rattle.std.specs.Prelude.{not, Some, Result, Ok, Err}
 use Rattle.std.proofs.lemmas.Bool.{true≢false, and_parts, cases_lt, not-true}
 use Rattle.std.proofs.Math.Bool.{Bool-set}
 use Rattle.std.proofs.Math.Seq.{get_or-append_seam}
@@ -20,12 +20,12 @@ use Rattle.vlog_prep.specs.declared.lexeme.Lexeme.{Lexeme}
 use Rattle.vlog_prep.specs.declared.lexeme.Lexeme.TheVariants.{Blank, Passed, Continued, Tick, Identifier, Numeral, SystemName, Symbol}
 use Rattle.vlog_prep.specs.declared.piece.Piece.{Piece}
 use Rattle.vlog_prep.specs.declared.piece.Piece.TheVariants.{Token, Directive, LineEnd}
-use Rattle.vlog_prep.specs.Lexemes.{is_lexeme, stands, IsLongest, BeginsNone}
+use Rattle.vlog_prep.specs.Lexemes.{IsLongest}
 use Rattle.vlog_prep.specs.Lengths.{first_lexeme}
 use Rattle.vlog_prep.specs.Places.{place_after}
-use Rattle.vlog_prep.specs.Pieces.{line_of, line_end, lexeme_of, begins_with, IsTokenOf, AreToken, Makes, IsAllowed, IsBad, begins_none, continued, Reads, start, next, AreRead, none, file}
+use Rattle.vlog_prep.specs.Pieces.{lexeme_of, begins_with, IsTokenOf, AreToken, Makes, IsAllowed, IsBad, begins_none, continued, Reads, start, next, AreRead, none, file}
 use Rattle.vlog_prep.specs.Reading.{prepared}
-use Rattle.vlog_prep.specs.Prepared.{most_bytes, Files, AreSmall, IsFirstLong, end_of, ArePrepared, IsBadAt, AreRefused, Refuses, Answers, OneAnswer}
+use Rattle.vlog_prep.specs.Prepared.{most_bytes, Files, AreSmall, IsFirstLong, ArePrepared, IsBadAt, AreRefused, Refuses, Answers, OneAnswer}
 use Rattle.vlog_prep.proofs.Longest.{fronts, same_lexeme}
 
 none_first : (lexeme : Lexeme) → first_lexeme [] ≡ Some lexeme → ⊥

@@ -1,5 +1,5 @@
 -- What the loops over the files keep, and what their ends show.
-use Rattle.std.proofs.Common.{◌≡◌, ℕ, ◌+◌, ◌-◌, ◌<◌, ◌≤◌, ◌⊎◌, inl, inr, List, [], ◌∷◌, ◌++◌, map, length, take, drop, get_or, refl, sym, ◌∙◌, ap, arith}
+use Rattle.std.proofs.Common.{◌≡◌, ℕ, ◌+◌, ◌-◌, ◌<◌, ◌≤◌, inl, inr, List, [], ◌∷◌, ◌++◌, map, length, take, drop, get_or, refl, sym, ◌∙◌, ap, arith}
 use Rattle.std.proofs.lemmas.List.{take-append-drop, length-take-le, take_more, drop_more, take_all, get_or-take, get_or-map, nil_from_length}
 use Rattle.std.proofs.Math.ListN.{get_or-eq_default}
 use Rattle.std.proofs.lemmas.Bool.{cases_lt}
@@ -9,8 +9,8 @@ use Rattle.vlog_tree.specs.declared.fault.VlogFault.{VlogFault}
 use Rattle.vlog_tree.specs.declared.fault.VlogFault.TheVariants.{NoMemory, At}
 use Rattle.vlog_prep.specs.declared.piece.Piece.{Piece}
 use Rattle.vlog_prep.specs.Places.{moved, place_after}
-use Rattle.vlog_prep.specs.Pieces.{Reads, AreRead, none, file}
-use Rattle.vlog_prep.specs.Prepared.{most_bytes, Files, AreSmall, IsFirstLong, IsBadAt, end_of}
+use Rattle.vlog_prep.specs.Pieces.{AreRead, file}
+use Rattle.vlog_prep.specs.Prepared.{most_bytes, Files, AreSmall, end_of}
 use Rattle.vlog_prep.specs.Scanned.{Appends, IsBadIn}
 use Rattle.vlog_prep.specs.Files.{IsLong, IsBadFault}
 use Rattle.vlog_prep.proofs.PlaceSteps.{moved-after}

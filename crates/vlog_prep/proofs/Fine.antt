@@ -1,6 +1,6 @@
 -- That reading pieces is refused by 202 or 213 alone, and names no nets.
 use Rattle.std.proofs.Common.{◌≡◌, ℕ, zero, suc, ◌+◌, Bool, true, false, List, [], ◌∷◌, cond, refl}
-use Rattle.std.specs.Prelude.{◌&&◌, not, nat_lt, Option, Some, None, is_some, Result, Ok, Err}
+use Rattle.std.specs.Prelude.{◌&&◌, not, nat_lt, Option, Some, None, Result, Ok, Err}
 use denote.Enum.Bare.{sameb}
 use Rattle.vlog_prep.specs.contracts.condition.Choice.{the_type}
 use Rattle.bit_base.specs.declared.place.Place.{Place}

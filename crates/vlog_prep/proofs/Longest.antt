@@ -1,17 +1,16 @@
 -- That the lexeme that the code finds is the longest match, and that it finds none only where none stands.
-use Rattle.std.proofs.Common.{◌≡◌, ℕ, zero, suc, ◌+◌, ◌-◌, ◌<◌, ◌≤◌, ◌⊎◌, inl, inr, Bool, true, false, List, [], ◌∷◌, ◌++◌, length, take, drop, cond, refl, sym, ◌∙◌, ap, arith}
+use Rattle.std.proofs.Common.{◌≡◌, ℕ, suc, ◌+◌, ◌-◌, ◌<◌, ◌≤◌, ◌⊎◌, inl, inr, Bool, true, false, List, [], ◌∷◌, ◌++◌, length, take, drop, cond, refl, sym, ◌∙◌, ap, arith}
 use Rattle.std.specs.Prelude.{◌&&◌, ◌||◌, ◌==◌, nat_le, nat_lt, not, Option, Some, None, option_map, codes}
 use Rattle.std.specs.List.{list_all, list_any, prefix_len}
 use Rattle.std.proofs.lemmas.List.{take-append-drop, length-take-le}
 use Rattle.std.proofs.lemmas.List.Sums.{prefix_len-le-length}
-use Rattle.std.proofs.lemmas.Bool.{and_parts, and_from, or_cases, ltb-true, leb-true, lt-ltb, le-leb, true≢false, false≢true, eqb-true, not-true}
+use Rattle.std.proofs.lemmas.Bool.{and_parts, and_from, or_cases, ltb-true, leb-true, lt-ltb, true≢false, false≢true, eqb-true, not-true}
 use Rattle.std.proofs.lemmas.Bool.Decides.{nat_tests}
-use Rattle.std.proofs.Math.Bool.{or-true}
 use Rattle.std.proofs.lemmas.Option.{same_Some, none-some}
-use Rattle.vlog_tree.specs.Spelling.{is_nil, is_among, is_letter, is_name_byte, is_identifier, digit_of, is_digit, is_unknown, ends_in_digit, is_digits, is_in_size, size_of, after_size, is_some_digit, is_size, is_signed_based, is_based_number, is_number, is_system, is_mark_byte, is_mark_pair, is_mark_triple, is_mark}
+use Rattle.vlog_tree.specs.Spelling.{is_nil, is_among, is_letter, is_name_byte, is_identifier, digit_of, is_digit, is_unknown, ends_in_digit, is_digits, is_in_size, size_of, after_size, is_some_digit, is_size, is_signed_based, is_based_number, is_number, is_mark_byte, is_mark_pair, is_mark_triple, is_mark}
 use Rattle.vlog_prep.specs.declared.lexeme.Lexeme.{Lexeme}
 use Rattle.vlog_prep.specs.declared.lexeme.Lexeme.TheVariants.{Blank, Passed, Continued, Tick, Identifier, Numeral, SystemName, Symbol}
-use Rattle.vlog_prep.specs.Lexemes.{is_blank, is_in_line, is_one_blank, ends_at, is_line_comment, is_block_comment, is_attribute, is_tick, is_continued, is_lexeme, only_blanks, opens, is_passed, stands, IsLongest, BeginsNone}
+use Rattle.vlog_prep.specs.Lexemes.{is_blank, is_in_line, ends_at, is_line_comment, is_block_comment, is_attribute, is_continued, is_lexeme, only_blanks, opens, is_passed, stands, IsLongest, BeginsNone}
 use Rattle.vlog_prep.specs.Lengths.{number_len, closing_len, passed_len, mark_len, named_len, continued_len, class_of, some_len, lexeme_len, first_lexeme, found_lexeme, lexeme_by, lexeme_at}
 use Rattle.vlog_prep.proofs.Digits.{take_one}
 use Rattle.vlog_prep.proofs.NumberLengths.{number_len-covers, number_len-spelled}

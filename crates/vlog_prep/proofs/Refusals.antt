@@ -1,18 +1,17 @@
 -- What the steps of preparing say of a refusal.
-use Rattle.std.proofs.Common.{◌≡◌, ℕ, inl, inr, List, [], refl, sym, ◌∙◌, ap, subst}
-use Rattle.std.specs.Prelude.{Result, Ok, Err}
+use Rattle.std.proofs.Common.{◌≡◌, inr, List, [], refl, subst}
+use Rattle.std.specs.Prelude.{Result, Err}
 use Rattle.bit_base.specs.declared.place.Place.{Place}
-use Rattle.vlog_tree.specs.declared.token.VToken.{VToken}
 use Rattle.vlog_tree.specs.declared.token.VTokens.{VTokens}
 use Rattle.vlog_tree.specs.declared.fault.VlogCode.{VlogCode}
-use Rattle.vlog_tree.specs.declared.fault.VlogCode.TheVariants.{VlogByte, VlogDirective, VlogSize}
+use Rattle.vlog_tree.specs.declared.fault.VlogCode.TheVariants.{VlogDirective, VlogSize}
 use Rattle.vlog_tree.specs.declared.fault.VlogFault.{VlogFault}
 use Rattle.vlog_tree.specs.declared.fault.VlogFault.TheVariants.{NoMemory, At}
 use Rattle.vlog_prep.specs.declared.piece.Piece.{Piece}
 use Rattle.vlog_prep.specs.Pieces.{AreRead}
 use Rattle.vlog_prep.specs.Reading.{prepared}
-use Rattle.vlog_prep.specs.Prepared.{Files, AreSmall, IsFirstLong, IsBadAt, AreRefused, IsTooLargeAt, WithCode, HasOwnCode, Refuses}
-use Rattle.vlog_prep.specs.Files.{IsLong, IsBadFault, Means}
+use Rattle.vlog_prep.specs.Prepared.{Files, AreSmall, IsFirstLong, Refuses}
+use Rattle.vlog_prep.specs.Files.{IsLong, Means}
 use Rattle.vlog_prep.proofs.Fine.{IsFine, IsRefusal, prepared-fine}
 use Rattle.vlog_prep.proofs.Answers.{long-not_small, long-same}
 

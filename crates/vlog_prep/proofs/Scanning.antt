@@ -6,7 +6,6 @@ use Rattle.std.proofs.lemmas.List.{append-nil, nil_from_length}
 use Rattle.std.proofs.lemmas.List.Sums.{fold-append}
 use Rattle.bit_base.specs.declared.place.Place.{Place}
 use Rattle.vlog_tree.specs.declared.fault.VlogCode.TheVariants.{VlogByte}
-use Rattle.vlog_tree.specs.declared.fault.VlogFault.{VlogFault}
 use Rattle.vlog_tree.specs.declared.fault.VlogFault.TheVariants.{At}
 use Rattle.vlog_prep.specs.declared.lexeme.Lexeme.{Lexeme}
 use Rattle.vlog_prep.specs.declared.lexeme.Lexeme.TheVariants.{Blank, Passed, Continued, Tick, Identifier, Numeral, SystemName, Symbol}
@@ -14,10 +13,10 @@ use Rattle.vlog_prep.specs.declared.directive.Line.{Line}
 use Rattle.vlog_prep.specs.declared.directive.Line.TheVariants as line_
 use Rattle.vlog_prep.specs.declared.piece.Piece.{Piece}
 use Rattle.vlog_prep.specs.declared.piece.Piece.TheVariants.{LineEnd}
-use Rattle.vlog_prep.specs.Lexemes.{is_lexeme, is_passed, opens, stands, IsLongest, BeginsNone}
+use Rattle.vlog_prep.specs.Lexemes.{is_lexeme, stands, IsLongest, BeginsNone}
 use Rattle.vlog_prep.specs.Lengths.{lexeme_at}
 use Rattle.vlog_prep.specs.Places.{moved, place_after}
-use Rattle.vlog_prep.specs.Pieces.{line_after, line_of, Makes, IsAllowed, IsBad, begins_none, continued, Reads, start, next}
+use Rattle.vlog_prep.specs.Pieces.{line_after, line_of, Makes, IsAllowed, begins_none, continued, Reads, start, next}
 use Rattle.vlog_prep.specs.Prepared.{most_bytes}
 use Rattle.vlog_prep.specs.Scanned.{strays, Appends, IsBadIn}
 use Rattle.vlog_prep.proofs.Longest.{FindsLexeme, lexeme_at-finds}

@@ -1,5 +1,5 @@
 -- The pieces behind those that belong to a directive. That they are is proved in proofs/Behind. No public contract cites it.
-use Rattle.std.specs.Prelude.{ℕ, Bool, if◌then◌else◌, List, [], ◌∷◌, drop}
+use Rattle.std.specs.Prelude.{if◌then◌else◌, List, [], ◌∷◌, drop}
 use Rattle.std.specs.List.{prefix_len}
 use Rattle.vlog_tree.specs.declared.token.VTokenKind.TheVariants.{Name}
 use Rattle.vlog_tree.specs.Tokens.{is_kind}

@@ -1,6 +1,5 @@
 -- What reading the files gives, step by step. No public contract cites it.
-use Rattle.std.specs.Prelude.{◌≡◌, ℕ, List, [], Result, Ok, Err}
-use Rattle.bit_base.specs.declared.place.Place.{Place}
+use Rattle.std.specs.Prelude.{◌≡◌, List, [], Result, Ok, Err}
 use Rattle.vlog_tree.specs.declared.token.VToken.{VToken}
 use Rattle.vlog_tree.specs.declared.fault.VlogCode.TheVariants.{VlogByte, VlogSize}
 use Rattle.vlog_tree.specs.declared.fault.VlogFault.{VlogFault}

@@ -1,5 +1,5 @@
 -- How long the lexeme in front of a text is. That this is the longest match is proved in proofs/Longest.
-use Rattle.std.specs.Prelude.{ℕ, ◌+◌, Bool, ◌&&◌, ◌||◌, ◌==◌, nat_lt, nat_le, if◌then◌else◌, List, [], ◌∷◌, take, drop, max, Option, Some, None, option_map}
+use Rattle.std.specs.Prelude.{ℕ, ◌+◌, ◌&&◌, ◌||◌, ◌==◌, nat_lt, nat_le, if◌then◌else◌, List, [], ◌∷◌, take, drop, max, Option, Some, None, option_map}
 use Rattle.std.specs.List.{prefix_len, list_any}
 use Rattle.vlog_tree.specs.Spelling.{is_among, is_letter, is_name_byte, is_digit, base_of, is_some_digit, is_mark_byte, is_mark_pair, is_mark_triple}
 use Rattle.vlog_prep.specs.declared.lexeme.Lexeme.{Lexeme}

@@ -1,6 +1,6 @@
 -- The pieces of a text: its tokens, its directives and the ends of its lines, blanks, comments and attributes left out.
-use Rattle.std.specs.Prelude.{◌≡◌, ◌≢◌, ℕ, Bool, true, false, ◌==◌, if◌then◌else◌, List, [], ◌∷◌, ◌++◌, length, drop, fold, bytes_eq, codes}
-use Rattle.std.specs.List.{list_all, list_any}
+use Rattle.std.specs.Prelude.{◌≡◌, ◌≢◌, ℕ, Bool, false, ◌==◌, if◌then◌else◌, List, [], ◌∷◌, ◌++◌, length, drop, fold, bytes_eq, codes}
+use Rattle.std.specs.List.{list_all}
 use Rattle.bit_base.specs.declared.place.Place.{Place}
 use Rattle.vlog_tree.specs.declared.token.VTokenKind.{VTokenKind}
 use Rattle.vlog_tree.specs.declared.token.VTokenKind.TheVariants.{Name, Word, Number, System, Mark}

@@ -1,5 +1,5 @@
 -- What pieces mean: macros are replaced, conditions leave pieces out, tokens are kept (IEEE 1364-2005, 19.3 and 19.4).
-use Rattle.std.specs.Prelude.{◌≡◌, ℕ, zero, suc, ◌+◌, Bool, true, false, ◌==◌, nat_lt, if◌then◌else◌, List, [], ◌∷◌, ◌++◌, Option, Some, None, is_some, take, not, ◌&&◌, Result, Ok, Err, bytes_eq}
+use Rattle.std.specs.Prelude.{ℕ, zero, suc, ◌+◌, Bool, true, false, nat_lt, if◌then◌else◌, List, [], ◌∷◌, ◌++◌, Option, Some, None, is_some, take, not, ◌&&◌, Result, Ok, Err, bytes_eq}
 use Rattle.std.specs.List.{prefix_len}
 use denote.Enum.Bare.{sameb}
 use Rattle.vlog_prep.specs.contracts.condition.Choice.{the_type}

@@ -1,12 +1,12 @@
 -- What the code's progress stands for. No public contract cites it.
-use Rattle.std.specs.Prelude.{◌≡◌, ℕ, zero, suc, ◌<◌, ◌-◌, List, [], reverse, Option, Some, None, option_map, Result, Ok, Err}
+use Rattle.std.specs.Prelude.{◌≡◌, ℕ, ◌<◌, ◌-◌, List, reverse, Option, Some, None, option_map, Result, Ok, Err}
 use Rattle.bit_base.specs.declared.place.Place.{Place}
 use Rattle.vlog_tree.specs.declared.fault.VlogFault.{VlogFault}
 use Rattle.vlog_tree.specs.declared.fault.VlogFault.TheVariants.{NoMemory, At}
 use Rattle.vlog_prep.specs.declared.piece.Piece.{Piece}
 use Rattle.vlog_prep.specs.declared.progress.Progress.{Progress}
 use Rattle.vlog_prep.specs.Table.{found}
-use Rattle.vlog_prep.specs.Reading.{State, Outcome, where_read, expanded, expansion, Part, Own, read_by}
+use Rattle.vlog_prep.specs.Reading.{State, Outcome, where_read, expanded, expansion, Own, read_by}
 use denote.Ref.{Bor}
 
 abbrev pub seen : Progress → State

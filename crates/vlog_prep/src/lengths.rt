@@ -2,9 +2,9 @@
 
 ghost use Rattle.std.specs.Prelude.{◌≡◌, ◌≤◌, ◌<◌, ◌+◌, ◌^◌, length, IfSome, ◌==◌, ◌&&◌, max, if◌then◌else◌};
 ghost use Rattle.std.specs.List.{prefix_len, list_any};
-ghost use Rattle.vlog_tree.specs.Spelling.{is_name_byte, is_size, is_some_digit, ends_in_digit, is_digits};
+ghost use Rattle.vlog_tree.specs.Spelling.{is_name_byte, is_some_digit};
 ghost use Rattle.vlog_prep.specs.Lexemes.{is_in_line, only_blanks, opens};
-ghost use Rattle.vlog_prep.specs.Lengths.{more_digits, digits_len, behind, unknown_len, based_len, signed_len, quote_len, number_len, closing_len, passed_len, mark_len, named_len, continued_len, class_of, some_len, lexeme_len, first_lexeme, lexeme_at};
+ghost use Rattle.vlog_prep.specs.Lengths.{more_digits, digits_len, behind, unknown_len, based_len, signed_len, quote_len, number_len, closing_len, passed_len, mark_len, named_len, continued_len, class_of, lexeme_len, first_lexeme, lexeme_at};
 
 use crate::bytes::{
     base_of, is_blank, is_digit, is_letter, is_mark_byte, is_mark_pair, is_mark_triple,

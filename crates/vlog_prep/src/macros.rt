@@ -1,7 +1,6 @@
 //! The macros that are defined.
 
 ghost use Rattle.std.specs.Prelude.{◌≡◌, ℕ, List, None, Some, Option, option_map, is_some, bytes_eq, if◌then◌else◌, OnOk};
-ghost use Rattle.std.specs.HashMap.{get_by};
 ghost use Rattle.vlog_prep.specs.Table.{found};
 
 use crate::piece::Piece;

@@ -1,7 +1,7 @@
 //! What has been read: macros, conditions and tokens.
 
 ghost use Rattle.std.specs.List.{prefix_len};
-ghost use Rattle.std.specs.Prelude.{◌≡◌, ◌<◌, ◌≤◌, length, [], None, Some, false, true, option_map, if◌then◌else◌, IfErr};
+ghost use Rattle.std.specs.Prelude.{◌≡◌, ◌<◌, ◌≤◌, length, [], None, Some, false, true, option_map, if◌then◌else◌};
 ghost use Rattle.vlog_tree.specs.declared.fault.VlogFault.{VlogFault};
 ghost use Rattle.vlog_tree.specs.declared.fault.VlogFault.TheVariants.{At};
 ghost use Rattle.vlog_tree.specs.declared.fault.VlogCode.TheVariants.{VlogDirective, VlogSize};

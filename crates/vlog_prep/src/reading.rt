@@ -4,7 +4,7 @@ ghost use Rattle.std.specs.Prelude.{◌≡◌, ◌≤◌, ◌∷◌, Option, len
 ghost use Rattle.bit_base.specs.declared.place.Place.{Place};
 ghost use Rattle.vlog_prep.specs.declared.piece.Piece.TheVariants.{Directive};
 ghost use Rattle.vlog_prep.specs.Pieces.{command_of};
-ghost use Rattle.vlog_prep.specs.Reading.{place_at, line, obey, expansion, Part, part_behind, Own, read_by};
+ghost use Rattle.vlog_prep.specs.Reading.{place_at, line, obey, expansion, part_behind, Own, read_by};
 ghost use Rattle.vlog_prep.specs.Behind.{behind_line, behind_name, behind};
 ghost use Rattle.vlog_prep.specs.Seen.{seen, Follows, used, Goes};
 

@@ -1,4 +1,4 @@
-use Rattle.std.proofs.Common.{◌≡◌, ◌<◌, ◌≤◌, [], length, get_or, map, refl, arith}
+use Rattle.std.proofs.Common.{◌<◌, ◌≤◌, [], length, get_or, map, refl, arith}
 use Rattle.std.specs.Prelude.{vec_items}
 use Rattle.std.proofs.lemmas.List.{length-map}
 use Rattle.vlog_prep.specs.Prepared.{most_bytes}

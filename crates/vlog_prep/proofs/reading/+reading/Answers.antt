@@ -1,9 +1,8 @@
-use Rattle.std.proofs.Common.{◌≡◌, ◌≤◌, [], length, ◌∷◌, refl, sym, ◌∙◌, ap, subst}
+use Rattle.std.proofs.Common.{◌≡◌, length, ◌∷◌, sym, ◌∙◌, ap, subst}
 use Rattle.std.specs.Prelude.{Err}
 use Rattle.std.proofs.lemmas.List.{nil_from_length}
-use Rattle.vlog_prep.specs.declared.piece.Piece.TheVariants.{Token, Directive, LineEnd}
 use Rattle.vlog_prep.specs.Pieces.{command_of}
-use Rattle.vlog_prep.specs.Reading.{Own, part_behind, read_by, expansion, keep, place_at}
+use Rattle.vlog_prep.specs.Reading.{Own, part_behind, read_by, expansion}
 use Rattle.vlog_prep.specs.Behind.{behind}
 use Rattle.vlog_prep.specs.Seen.{seen, Goes}
 use Rattle.vlog_prep.proofs.Behind.{nothing-read, part-shorter, directive-goes, directive-err, token-goes, token-err, end-goes}

@@ -1,6 +1,5 @@
-use Rattle.std.proofs.Common.{◌≡◌, ◌<◌, length, Some, true, refl, sym, ◌∙◌, arith}
+use Rattle.std.proofs.Common.{◌<◌, length, Some, sym, ◌∙◌, arith}
 use Rattle.std.specs.Prelude.{None, option_to_list}
-use Rattle.vlog_prep.specs.Lexemes.{IsLongest, stands}
 use Rattle.vlog_prep.proofs.Scanning.{found_at, longest_at, some_left, none_left, stands-spelled, scanned-start, scanned-line, scanned-column, scanned-next, scanned-none, scanned-stray, scanned-end}
 use Rattle.vlog_prep.proofs.scan.read_file.Goals as goal
 
