@@ -18,14 +18,14 @@ use Rattle.watch_lists.specs.Scans.{IsForced, AreQuiet, AreWithin, IsUnitNumber}
 use Rattle.watch_lists.proofs.Lists.{get_front, get_take, has_front, lacks_front, push_cases, lacks_push}
 
 -- the values after a literal was added
-values_push : (vs : List Bool) (t : List Literal) (x : Literal) → x.0 < length vs → at vs ≡ set_of t → at (set vs x.0 true) ≡ set_of (t ++ x ∷ [])
+pub values_push : (vs : List Bool) (t : List Literal) (x : Literal) → x.0 < length vs → at vs ≡ set_of t → at (set vs x.0 true) ≡ set_of (t ++ x ∷ [])
 values_push vs t x lt same = fun_ext (λ l. elim (cases_eq l x.0) [
   | inl e ↦ ap (at (set vs x.0 true)) e ∙ (get_or-set_same vs x.0 true false lt ∙ (sym (has_push_new t x) ∙ ap (λ (k : ℕ). has k (t ++ x ∷ [])) (sym e)))
   | inr away ↦ get_or-set_other vs x.0 l true false away ∙ (ap (λ (f : ℕ → Bool). f l) same ∙ sym (has_push_other l t x away))
 ])
 
 -- no literal with its opposite, after a push
-apart_push : (t : List Literal) (x : Literal) → AreApart (set_of t) → has (opposite x.0) t ≡ false → AreApart (set_of (t ++ x ∷ []))
+pub apart_push : (t : List Literal) (x : Literal) → AreApart (set_of t) → has (opposite x.0) t ≡ false → AreApart (set_of (t ++ x ∷ []))
 apart_push t x a free = record {
   apart = λ l h. elim (push_cases l t x h) [
     | inl old ↦ lacks_push (opposite l) t x (a.apart l old) (λ e. true≢false (sym old ∙ (ap (λ (k : ℕ). has k t) (sym (ap opposite (sym e) ∙ opposite_back l)) ∙ free)))
@@ -47,7 +47,7 @@ new_start clauses t ss s = record {
   kept = λ i a is. get_kept ss (length t ∷ []) i a is;
 }
 
-before_push : (t : List Literal) (x : Literal) (p : ℕ) → p ≤ length t → take p (t ++ x ∷ []) ≡ take p t
+pub before_push : (t : List Literal) (x : Literal) (p : ℕ) → p ≤ length t → take p (t ++ x ∷ []) ≡ take p t
 before_push t x p le = take-append-le p t (x ∷ []) le
 
 -- the front at a start is as it was

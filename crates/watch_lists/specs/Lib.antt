@@ -1,2 +1,5 @@
 pub mod Trails
 pub mod Scans
+pub mod Watching
+pub mod Looks
+pub mod Visits

@@ -1,7 +1,10 @@
 //! Trails of literals, and unit propagation over clauses.
 #![tactic(auto)]
 
+pub mod look;
 pub mod scan;
 #[cfg(test)]
 mod tests;
 pub mod trail;
+pub mod visit;
+pub mod watch;

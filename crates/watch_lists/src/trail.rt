@@ -58,6 +58,7 @@ impl Trail {
         ensures values { OnOk result (self.new.values.items ≡ slice_set self.old.values.items literal.0 true) }
         ensures starts { self.new.starts.items ≡ self.old.starts.items }
         ensures size { length self.new.values.items ≡ length self.old.values.items }
+        ensures done { self.new.done ≡ self.old.done }
     {
         self.literals.push(literal)?;
         self.reasons.push(reason)?;
@@ -72,6 +73,7 @@ impl Trail {
         ensures reasons { OnOk result (self.new.reasons.items ≡ self.old.reasons.items ++ 0 ∷ []) }
         ensures values { OnOk result (self.new.values.items ≡ slice_set self.old.values.items literal.0 true) }
         ensures starts { OnOk result (self.new.starts.items ≡ self.old.starts.items ++ length self.old.literals.items ∷ []) }
+        ensures done { self.new.done ≡ self.old.done }
     {
         let place = self.literals.len();
         self.starts.push(place)?;

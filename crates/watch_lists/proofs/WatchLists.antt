@@ -1,0 +1,75 @@
+-- Lists of watches, by the literal, and the copies of clauses in one table.
+use Rattle.std.proofs.Common.{◌≡◌, ◌≢◌, ℕ, zero, suc, ◌+◌, ◌-◌, ◌<◌, ◌≤◌, ◌⊎◌, Bool, true, false, eqb, List, [], ◌∷◌, ◌++◌, length, take, drop, map, get_or, set, Some, slice_get, refl, ap, ◌∙◌, sym, subst, inl, inr, arith, true≢false, eq-eqb, length-set}
+use Rattle.std.specs.List.{swap_remove, between, list_any}
+use Rattle.std.specs.declared.vec.Vec.{Vec}
+use Rattle.std.specs.declared.alloc.Global.{Global}
+use Rattle.std.proofs.lemmas.Option.{slice_get_within, slice_get-get_or, get_or_from_slice_get}
+use Rattle.std.proofs.lemmas.Bool.{cases_eq, cases_order, or_cases, or_left, or_right, eqb-true}
+use Rattle.std.proofs.lemmas.List.{length-map, map-set, get_or-map, get_or-set_same, get_or-set_other, get_or-take, get_or-drop, get_or_default, length-take-le}
+use Rattle.std.proofs.lemmas.Slice.{between_is, between-put_mid, take-put_mid_below, drop-put_mid}
+use Rattle.std.specs.Vec.{with_item}
+use Rattle.std.proofs.lemmas.List.Edits.{length-between}
+use borrow.Rule.Slice.PartMut.{put_mid}
+use Rattle.lemma_checker.specs.declared.literal.Literal.{Literal}
+use Rattle.watch_lists.specs.declared.watch.Watch.{Watch}
+use Rattle.watch_lists.specs.Watching.{copy, lists_of, list_at, names, IsTable}
+
+-- the list of a literal
+pub list_read : (ls : List (Vec Watch Global)) (l : ℕ) (v : Vec Watch Global) → l < length ls → v ≡ get_or ls l v → list_at (lists_of ls) l ≡ v.items
+list_read ls l v lt is = get_or-map (λ (w : Vec Watch Global). w.items) ls l v [] lt ∙ ap (λ (w : Vec Watch Global). w.items) (sym is)
+
+-- one list changed
+pub list_set : (ls : List (Vec Watch Global)) (l : ℕ) (v : Vec Watch Global) → lists_of (set ls l v) ≡ set (lists_of ls) l v.items
+list_set ls l v = map-set (λ (w : Vec Watch Global). w.items) ls l v
+
+pub list_other : (ls : List (List Watch)) (l m : ℕ) (ws : List Watch) → m ≢ l → list_at (set ls l ws) m ≡ list_at ls m
+list_other ls l m ws away = get_or-set_other ls l m ws [] away
+
+pub list_same : (ls : List (List Watch)) (l : ℕ) (ws : List Watch) → l < length ls → list_at (set ls l ws) l ≡ ws
+list_same ls l ws lt = get_or-set_same ls l ws [] lt
+
+-- the default that `swap_remove` never reads
+pub swap_remove_default : (xs : List Watch) (i : ℕ) (d e : Watch) → i < length xs → swap_remove xs i d ≡ swap_remove xs i e
+swap_remove_default xs i d e lt = ap (λ (y : Watch). take (length xs - 1) (set xs i y)) (get_or_default xs (length xs - 1) d e (omega arith))
+
+-- the copy after a write to it, and the others
+pub copy_same : (ls new : List Literal) (starts : List ℕ) (k : ℕ) → IsTable ls starts → k + 1 < length starts → length new ≡ get_or starts (k + 1) 0 - get_or starts k 0 → copy (put_mid (get_or starts k 0) (get_or starts (k + 1) 0 - get_or starts k 0) ls new) starts k ≡ new
+copy_same ls new starts k table lt long = between-put_mid (get_or starts k 0) (get_or starts (k + 1) 0 - get_or starts k 0) ls new (get_or starts (k + 1) 0) (table.inside k (omega arith)) long
+
+pub copy_other : (ls new : List Literal) (starts : List ℕ) (k j : ℕ) → IsTable ls starts → k + 1 < length starts → j + 1 < length starts → j ≢ k → length new ≡ get_or starts (k + 1) 0 - get_or starts k 0 → copy (put_mid (get_or starts k 0) (get_or starts (k + 1) 0 - get_or starts k 0) ls new) starts j ≡ copy ls starts j
+copy_other ls new starts k j table lt_k lt_j away long =
+    let a : ℕ = get_or starts k 0 in
+    let n : ℕ = get_or starts (k + 1) 0 - get_or starts k 0 in
+    let p : ℕ = get_or starts j 0 in
+    let q : ℕ = get_or starts (j + 1) 0 in
+    elim (cases_order j k) [
+      | inl e ↦ absurd (away e)
+      | inr other ↦ elim other [
+        | inl lower ↦
+            let up : q ≤ a = table.rising (j + 1) k (omega arith) (omega arith) in
+            between_is (put_mid a n ls new) p q ∙ (ap (drop p) (take-put_mid_below a n ls new q up (table.inside k (omega arith))) ∙ sym (between_is ls p q))
+        | inr higher ↦
+            let low : get_or starts (k + 1) 0 ≤ p = table.rising (k + 1) j (omega arith) (omega arith) in
+            let base : a ≤ get_or starts (k + 1) 0 = table.rising k (k + 1) (omega arith) lt_k in
+            ap (take (q - p)) (drop-put_mid a n ls new p (omega arith) (table.inside k (omega arith)) long)
+      ]
+    ]
+
+-- a watch that went from one list to another
+pub moved_lists : (ls : List (Vec Watch Global)) (f t i : ℕ) (w d : Watch) (a b x y : Vec Watch Global) → t < length ls → f < length ls → t ≢ f → i < length (list_at (lists_of ls) f) → a.items ≡ (get_or ls t x).items ++ w ∷ [] → b.items ≡ swap_remove (get_or (set ls t a) f y).items i d → lists_of (set (set ls t a) f b) ≡ set (set (lists_of ls) t (list_at (lists_of ls) t ++ w ∷ [])) f (swap_remove (list_at (lists_of ls) f) i w)
+moved_lists ls f t i w d a b x y lt_t lt_f away within pushed removed =
+    let at_t : (get_or ls t x).items ≡ list_at (lists_of ls) t = sym (get_or-map (λ (v : Vec Watch Global). v.items) ls t x [] lt_t) in
+    let at_f : (get_or (set ls t a) f y).items ≡ list_at (lists_of ls) f = ap (λ (v : Vec Watch Global). v.items) (get_or-set_other ls t f a y (λ e. away (sym e))) ∙ sym (get_or-map (λ (v : Vec Watch Global). v.items) ls f y [] lt_f) in
+    let a_is : a.items ≡ list_at (lists_of ls) t ++ w ∷ [] = pushed ∙ ap (λ (q : List Watch). q ++ w ∷ []) at_t in
+    let b_is : b.items ≡ swap_remove (list_at (lists_of ls) f) i w = removed ∙ (ap (λ (q : List Watch). swap_remove q i d) at_f ∙ swap_remove_default (list_at (lists_of ls) f) i d w within) in
+    list_set (set ls t a) f b ∙ (ap (λ (q : List (List Watch)). set q f b.items) (list_set ls t a) ∙ (ap (λ (q : List Watch). set (set (lists_of ls) t q) f b.items) a_is ∙ ap (λ (q : List Watch). set (set (lists_of ls) t (list_at (lists_of ls) t ++ w ∷ [])) f q) b_is))
+
+-- a watch in the place of another one
+pub set_lists : (ls : List (Vec Watch Global)) (l i : ℕ) (w : Watch) (d : Vec Watch Global) → l < length ls → lists_of (set ls l (with_item (get_or ls l d) i w)) ≡ set (lists_of ls) l (set (list_at (lists_of ls) l) i w)
+set_lists ls l i w d lt = list_set ls l (with_item (get_or ls l d) i w) ∙ ap (λ (q : List Watch). set (lists_of ls) l (set q i w)) (sym (get_or-map (λ (v : Vec Watch Global). v.items) ls l d [] lt))
+
+pub length_copy : (ls : List Literal) (starts : List ℕ) (k : ℕ) → IsTable ls starts → k + 1 < length starts → length (copy ls starts k) ≡ get_or starts (k + 1) 0 - get_or starts k 0
+length_copy ls starts k table lt = length-between ls (get_or starts k 0) (get_or starts (k + 1) 0) (table.inside (k + 1) lt)
+
+pub length_lists : (ls : List (Vec Watch Global)) → length (lists_of ls) ≡ length ls
+length_lists ls = length-map ls (λ (v : Vec Watch Global). v.items)
