@@ -1,19 +1,21 @@
 -- One look at a watch: what it leaves of the watches and of the trail.
-use Rattle.std.proofs.Common.{◌≡◌, ◌≢◌, ℕ, ◌+◌, ◌-◌, ◌<◌, ◌≤◌, ◌⊎◌, Bool, true, false, List, [], ◌∷◌, ◌++◌, length, take, drop, get_or, set, Some, slice_get, refl, ap, ◌∙◌, sym, subst, inl, inr, arith, true≢false, length-set}
-use Rattle.std.specs.List.{swap_remove}
-use Rattle.std.proofs.lemmas.Bool.{cases_eq}
+use Rattle.std.proofs.Common.{◌≡◌, ◌≢◌, ℕ, ◌+◌, ◌-◌, ◌*◌, ◌%◌, ◌<◌, ◌≤◌, ◌⊎◌, Bool, true, false, not, eqb, List, [], ◌∷◌, ◌++◌, length, take, drop, get_or, set, Some, slice_get, refl, ap, ◌∙◌, sym, subst, inl, inr, arith, true≢false, length-set, eq-eqb}
+use Rattle.std.specs.List.{swap_remove, count_by}
+use Rattle.watch_lists.proofs.TrailLemmas.{fewer_false}
+use Rattle.std.proofs.lemmas.Bool.{cases_eq, cases_lt, or_cases, or_left, or_right, eqb-true}
 use Rattle.std.proofs.lemmas.Option.{slice_get_within}
-use Rattle.std.proofs.lemmas.List.{drop-set-lt, length_push, get_or_append_left}
+use Rattle.std.proofs.lemmas.List.{take_more, get_or_past, drop_all, drop-set-lt, length_push, get_or_append_left}
 use Rattle.lemma_checker.specs.declared.literal.Literal.{Literal}
 use Rattle.lemma_checker.specs.Clauses.{opposite, has, set_of, at}
 use Rattle.lemma_checker.specs.Propagation.{IsFalse}
 use Rattle.watch_lists.specs.declared.watch.Watch.{Watch}
 use Rattle.watch_lists.specs.declared.trail.Trail.{Trail}
+use Rattle.watch_lists.specs.Trails.{IsQuiet}
 use Rattle.watch_lists.specs.Scans.{IsForced}
-use Rattle.watch_lists.specs.Watching.{copy, list_at, names, literal_at, watched_at, AreTwo, IsTable, IsEntry, AreWatches, AreGuarded, IsPlain, HasTrue, AreHeld, AreForced}
+use Rattle.watch_lists.specs.Watching.{copy, list_at, names, among, literal_at, watched_at, AreTwo, IsTable, IsEntry, AreWatches, AreGuarded, IsPlain, HasTrue, AreHeld, AreForced}
 use Rattle.watch_lists.specs.Looks.{IsReordered, IsFacing, IsAway, IsMet, IsMoved, IsLast, IsLost}
-use Rattle.watch_lists.specs.Visits.{AreWatching, IsPassing, AreSameCopies, IsGrown, IsAhead, IsStopped}
-use Rattle.watch_lists.proofs.GuardLemmas.{true_push, true_set, guards_next, guards_push, plain_push, forced_none, forced_push, conflict_of}
+use Rattle.watch_lists.specs.Visits.{AreWatching, IsPassing, AreSameCopies, IsGrown, IsAhead, IsStopped, IsThrough, AreTrue}
+use Rattle.watch_lists.proofs.GuardLemmas.{true_push, true_set, guards_next, guards_push, plain_push, guard_more, forced_none, forced_push, forced_more, conflict_of}
 use Rattle.watch_lists.proofs.NameLemmas.{IsIn, names_step, names_set, element_set, names_removed, element_removed, removed_length, names_push_old, names_push_new}
 use Rattle.watch_lists.proofs.WatchLists.{list_other, list_same}
 use Rattle.lemma_checker.proofs.ListLemmas.{get_push}
@@ -40,6 +42,7 @@ watches_next starts ls new ws next k w long_ls long_ws order others listed entri
     let copies : AreSameCopies starts ls new = copies_next starts ls new k order others in
     record {
       table = record { some = w.table.some; few = w.table.few; rising = w.table.rising; inside = λ i lt. omega (arith, w.table.inside i lt, long_ls) };
+      even = ap (λ (n : ℕ). n % 2) long_ws ∙ w.even;
       low = λ j l lt h. w.low j l lt (ap (λ (f : ℕ → Bool). f l) (sym (copies.same j lt)) ∙ h);
       high = λ j l lt h. omega (arith, long_ws, w.high j l lt (ap (λ (f : ℕ → Bool). f l) (sym (copies.same j lt)) ∙ h));
       two = two_next starts ls new k order.two others w.two;
@@ -70,7 +73,7 @@ grown_none starts ls new ws t u w copies same = record {
   copies = copies;
   forced = λ clauses held. subst (λ (v : Trail). AreForced clauses t.literals.items t.reasons.items v.literals.items v.reasons.items) (sym same) (forced_none clauses t.literals.items t.reasons.items w.plain.lengths);
   levels = ap (λ (v : Trail). v.starts.items) same;
-  done = ap (λ (v : Trail). v.done) same;
+  balance = ap (λ (v : Trail). length v.literals.items + count_by not v.values.items) same;
 }
 
 -- the literal's list was passed to the next place; the clause at the place has a true literal, or is not watched here
@@ -120,20 +123,35 @@ ahead_away starts ls new ws t f i v l a = record {
   less = less_next (list_at ws f) i v l.is;
 }
 
+-- the trail grows by a literal that the copy of a clause forces
+pub watching_push : (starts : List ℕ) (ls : List Literal) (ws : List (List Watch)) (t u : Trail) (k : ℕ) (x : Literal) → AreWatching ls starts ws t → k + 1 < length starts → IsForced (copy ls starts k) x.0 (set_of t.literals.items) → u.literals.items ≡ t.literals.items ++ x ∷ [] → u.reasons.items ≡ t.reasons.items ++ (k + 1) ∷ [] → u.values.items ≡ set t.values.items x.0 true → u.starts.items ≡ t.starts.items → u.done ≡ t.done → AreWatching ls starts ws u
+watching_push starts ls ws t u k x w below forced literals reasons values levels done =
+    let plain : IsPlain (length ws) (t.literals.items ++ x ∷ []) (t.reasons.items ++ (k + 1) ∷ []) t.starts.items (set t.values.items x.0 true) t.done = plain_push (length ws) t.literals.items t.reasons.items t.starts.items t.values.items t.done x (k + 1) w.plain (w.watches.high k x.0 below forced.others.member) (w.watches.low k x.0 below forced.others.member) forced.not_true forced.not_false in
+    record {
+      watches = w.watches;
+      plain = rw (literals, reasons, values, levels, done) plain;
+      guarded = rw (literals, levels, done) (guards_push ls starts t.literals.items t.starts.items t.done x w.plain.within w.plain.inside w.guarded);
+    }
+
+pub grown_push : (starts : List ℕ) (ls new : List Literal) (ws : List (List Watch)) (t u : Trail) (k : ℕ) (x : Literal) → AreWatching ls starts ws t → AreSameCopies starts ls new → k + 1 < length starts → IsForced (copy new starts k) x.0 (set_of t.literals.items) → u.literals.items ≡ t.literals.items ++ x ∷ [] → u.reasons.items ≡ t.reasons.items ++ (k + 1) ∷ [] → u.values.items ≡ set t.values.items x.0 true → u.starts.items ≡ t.starts.items → IsGrown ls starts new t u
+grown_push starts ls new ws t u k x w copies below forced literals reasons values levels =
+    let lt : x.0 < length ws = w.watches.high k x.0 below (ap (λ (g : ℕ → Bool). g x.0) (sym (copies.same k below)) ∙ forced.others.member) in
+    record {
+      copies = copies;
+      forced = λ clauses held. rw (literals, reasons) (forced_push ls (copy new starts k) starts clauses k t.literals.items t.reasons.items x held below (copies.same k below) forced.others w.plain.lengths);
+      levels = levels;
+      balance = omega (arith, ap length literals, length_push t.literals.items x, ap (count_by not) values, fewer_false t.values.items x.0 (omega (arith, w.plain.size, lt)) (ap (λ (s : ℕ → Bool). s x.0) w.plain.same ∙ forced.not_true));
+    }
+
 -- a literal is forced
 pub ahead_forced : (starts : List ℕ) (ls new : List Literal) (ws : List (List Watch)) (t u : Trail) (f i : ℕ) (v : Watch) (x : Literal) → IsLooked starts ls new ws t f i v → IsLast x.0 (copy ls starts v.clause) (copy new starts v.clause) (at t.values.items) → u.literals.items ≡ t.literals.items ++ x ∷ [] → u.reasons.items ≡ t.reasons.items ++ (v.clause + 1) ∷ [] → u.values.items ≡ set t.values.items x.0 true → u.starts.items ≡ t.starts.items → u.done ≡ t.done → IsAhead (list_at ws f) i new starts ws u f (i + 1)
 ahead_forced starts ls new ws t u f i v x l last literals reasons values levels done =
     let w : AreWatching new starts ws t = facing_watching starts ls new ws t v.clause l.passing.watching l.long last.facing l.others in
     let forced : IsForced (copy new starts v.clause) x.0 (set_of t.literals.items) = subst (IsForced (copy new starts v.clause) x.0) w.plain.same last.forced in
     let below : v.clause + 1 < length starts = (l.passing.watching.watches.entries f i v l.is).below in
-    let plain : IsPlain (length ws) (t.literals.items ++ x ∷ []) (t.reasons.items ++ (v.clause + 1) ∷ []) t.starts.items (set t.values.items x.0 true) t.done = plain_push (length ws) t.literals.items t.reasons.items t.starts.items t.values.items t.done x (v.clause + 1) w.plain (w.watches.high v.clause x.0 below forced.others.member) (w.watches.low v.clause x.0 below forced.others.member) forced.not_true forced.not_false in
     record {
       passing = record {
-        watching = record {
-          watches = w.watches;
-          plain = rw (literals, reasons, values, levels, done) plain;
-          guarded = rw (literals, levels, done) (guards_push new starts t.literals.items t.starts.items t.done x w.plain.within w.plain.inside w.guarded);
-        };
+        watching = watching_push starts new ws t u v.clause x w below forced literals reasons values levels done;
         next = rw (literals, done) (omega (arith, l.passing.next, length_push t.literals.items x));
         denied = rw (literals, done) (ap opposite (ap (λ (z : Literal). z.0) (get_or_append_left t.literals.items (x ∷ []) (record { 0 = 0 }) t.done l.passing.next)) ∙ l.passing.denied);
         passed = rw literals (passed_next starts ls new ws (t.literals.items ++ x ∷ []) f i v.clause v l.is refl (copies_next starts ls new v.clause last.facing.order l.others) (λ j lt h. sym (watched_next starts ls new v.clause last.facing l.others j f lt) ∙ h) (λ j lt long h. elim (l.passing.passed j lt long h) [ inl named ↦ inl named | inr met ↦ inr (true_push (set_of (copy ls starts j)) t.literals.items x met) ]) (λ lt h. record { literal = x.0; member = forced.others.member; holds = has_push_new t.literals.items x }));
@@ -141,15 +159,10 @@ ahead_forced starts ls new ws t u f i v x l last literals reasons values levels 
       less = less_next (list_at ws f) i v l.is;
     }
 
-pub grown_forced : (starts : List ℕ) (ls new : List Literal) (ws : List (List Watch)) (t u : Trail) (f i : ℕ) (v : Watch) (x : Literal) → IsLooked starts ls new ws t f i v → IsLast x.0 (copy ls starts v.clause) (copy new starts v.clause) (at t.values.items) → u.literals.items ≡ t.literals.items ++ x ∷ [] → u.reasons.items ≡ t.reasons.items ++ (v.clause + 1) ∷ [] → u.starts.items ≡ t.starts.items → u.done ≡ t.done → IsGrown ls starts new t u
-grown_forced starts ls new ws t u f i v x l last literals reasons levels done =
+pub grown_forced : (starts : List ℕ) (ls new : List Literal) (ws : List (List Watch)) (t u : Trail) (f i : ℕ) (v : Watch) (x : Literal) → IsLooked starts ls new ws t f i v → IsLast x.0 (copy ls starts v.clause) (copy new starts v.clause) (at t.values.items) → u.literals.items ≡ t.literals.items ++ x ∷ [] → u.reasons.items ≡ t.reasons.items ++ (v.clause + 1) ∷ [] → u.values.items ≡ set t.values.items x.0 true → u.starts.items ≡ t.starts.items → IsGrown ls starts new t u
+grown_forced starts ls new ws t u f i v x l last literals reasons values levels =
     let forced : IsForced (copy new starts v.clause) x.0 (set_of t.literals.items) = subst (IsForced (copy new starts v.clause) x.0) l.passing.watching.plain.same last.forced in
-    record {
-      copies = copies_next starts ls new v.clause last.facing.order l.others;
-      forced = λ clauses held. rw (literals, reasons) (forced_push ls (copy new starts v.clause) starts clauses v.clause t.literals.items t.reasons.items x held (l.passing.watching.watches.entries f i v l.is).below last.facing.order.same forced.others l.passing.watching.plain.lengths);
-      levels = levels;
-      done = done;
-    }
+    grown_push starts ls new ws t u v.clause x l.passing.watching (copies_next starts ls new v.clause last.facing.order l.others) (l.passing.watching.watches.entries f i v l.is).below forced literals reasons values levels
 
 -- the clause is false
 pub stopped : (starts : List ℕ) (ls new : List Literal) (ws : List (List Watch)) (t : Trail) (f i : ℕ) (v : Watch) → IsLooked starts ls new ws t f i v → IsLost (copy ls starts v.clause) (copy new starts v.clause) (at t.values.items) → IsStopped ls starts new ws t (v.clause + 1)
@@ -268,3 +281,80 @@ moved_apart starts ls ws t f i to p free e = true≢false (sym (denied_now start
 -- a literal of the copy that was looked at has a list
 pub listed_below : (starts : List ℕ) (ls new : List Literal) (ws : List (List Watch)) (t : Trail) (f i l : ℕ) (v : Watch) → IsPassing ls starts ws t f i → slice_get (list_at ws f) i ≡ Some v → IsReordered (copy ls starts v.clause) (copy new starts v.clause) → has l (copy new starts v.clause) ≡ true → l < length ws
 listed_below starts ls new ws t f i l v p is order h = p.watching.watches.high v.clause l (p.watching.watches.entries f i v is).below (ap (λ (g : ℕ → Bool). g l) (sym order.same) ∙ h)
+
+-- the copies hold the same clauses
+pub held_next : (starts : List ℕ) (ls new : List Literal) (clauses : List (List Literal)) → AreSameCopies starts ls new → AreHeld ls starts clauses → AreHeld new starts clauses
+held_next starts ls new clauses copies held = record { count = held.count; same = λ k c is. copies.same k (omega (arith, held.count, slice_get_within clauses k c is)) ∙ held.same k c is }
+
+-- one part of propagation after another
+pub grown_more : (starts : List ℕ) (ls mid new : List Literal) (t u v : Trail) → length u.reasons.items ≡ length u.literals.items → IsGrown ls starts mid t u → IsGrown mid starts new u v → IsGrown ls starts new t v
+grown_more starts ls mid new t u v lengths a b = record {
+  copies = record { same = λ k lt. b.copies.same k lt ∙ a.copies.same k lt; long = λ k lt. b.copies.long k lt ∙ a.copies.long k lt };
+  forced = λ clauses held. forced_more clauses t.literals.items u.literals.items v.literals.items t.reasons.items u.reasons.items v.reasons.items lengths (a.forced clauses held) (b.forced clauses (held_next starts ls mid clauses a.copies held));
+  levels = b.levels ∙ a.levels;
+  balance = b.balance ∙ a.balance;
+}
+
+pub stopped_more : (starts : List ℕ) (ls mid new : List Literal) (ws : List (List Watch)) (t u v : Trail) (k : ℕ) → IsGrown ls starts mid t u → IsStopped mid starts new ws v k → IsStopped ls starts new ws v k
+stopped_more starts ls mid new ws t u v k a s = record { watching = s.watching; conflict = λ clauses held. s.conflict clauses (held_next starts ls mid clauses a.copies held) }
+
+-- at the end of the list
+pub through : (starts : List ℕ) (ls : List Literal) (ws : List (List Watch)) (t : Trail) (f i : ℕ) → length (list_at ws f) ≤ i → IsPassing ls starts ws t f i → IsThrough ls starts ws t f
+through starts ls ws t f i end p = record {
+  watching = p.watching;
+  next = p.next;
+  denied = p.denied;
+  met = λ k lt long h. elim (p.passed k lt long h) [ inl named ↦ absurd (true≢false (sym named ∙ ap (names k) (drop_all i (list_at ws f) end))) | inr met ↦ met ];
+}
+
+-- the next literal is propagated
+pub next_done : (starts : List ℕ) (ls : List Literal) (ws : List (List Watch)) (t u : Trail) (f : ℕ) → IsThrough ls starts ws t f → u.literals.items ≡ t.literals.items → u.reasons.items ≡ t.reasons.items → u.starts.items ≡ t.starts.items → u.values.items ≡ t.values.items → u.done ≡ t.done + 1 → AreWatching ls starts ws u
+next_done starts ls ws t u f p literals reasons levels values done = record {
+  watches = p.watching.watches;
+  plain = rw (literals, reasons, values, levels, done) (record { size = p.watching.plain.size; same = p.watching.plain.same; apart = p.watching.plain.apart; once = p.watching.plain.once; named = p.watching.plain.named; lengths = p.watching.plain.lengths; inside = p.watching.plain.inside; within = omega (arith, p.next) });
+  guarded = rw (literals, levels, done) (record { each = λ k x lt long h. guard_more (set_of (copy ls starts k)) x t.literals.items t.starts.items t.done p.next (λ e. p.met k lt long (subst (λ (y : ℕ). watched_at ls starts k y ≡ true) (e ∙ p.denied) h)) (p.watching.guarded.each k x lt long h) });
+}
+
+-- the opposite of a trail's literal has a list
+pub opposite_below : (n l : ℕ) → n % 2 ≡ 0 → l < n → opposite l < n
+unfolding opposite
+opposite_below n l even lt = omega arith
+
+pub next_below : (starts : List ℕ) (ls : List Literal) (ws : List (List Watch)) (t : Trail) → AreWatching ls starts ws t → t.done < length t.literals.items → opposite (literal_at t.literals.items t.done) < length ws
+next_below starts ls ws t w lt =
+    let holds : at t.values.items (literal_at t.literals.items t.done) ≡ true = ap (λ (s : ℕ → Bool). s (literal_at t.literals.items t.done)) w.plain.same ∙ has_get_or t.literals.items t.done (record { 0 = 0 }) lt in
+    opposite_below (length ws) (literal_at t.literals.items t.done) w.watches.even (elim (cases_lt (literal_at t.literals.items t.done) (length ws)) [
+      | inl below ↦ below
+      | inr past ↦ absurd (true≢false (sym holds ∙ get_or_past t.values.items (literal_at t.literals.items t.done) false (omega (arith, w.plain.size))))
+    ])
+
+-- a short clause that is quiet has a true literal
+pub short_true : (c t : List Literal) → length c ≤ 1 → IsQuiet c (set_of t) → HasTrue (set_of c) t
+short_true [] t short q = absurd (q.not_false (record { each = λ m h. absurd (true≢false (sym h)) }))
+short_true (x ∷ []) t short q =
+    let here : has x.0 (x ∷ []) ≡ true = or_left (eqb x.0 x.0) false (eq-eqb x.0 x.0 refl) in
+    let only : (m : ℕ) → has m (x ∷ []) ≡ true → m ≡ x.0 = λ m h. elim (or_cases (eqb x.0 m) false h) [ inl e ↦ sym (eqb-true x.0 m e) | inr none ↦ absurd (true≢false (sym none)) ] in
+    record { literal = x.0; member = here; holds = q.unit x.0 (record { member = here; others = λ m h away. absurd (away (only m h)) }) }
+short_true (x ∷ y ∷ c) t short q = absurd (omega arith)
+
+-- one number more
+among_push : (k m : ℕ) (xs : List ℕ) → among k (xs ++ m ∷ []) ≡ true → (among k xs ≡ true) ⊎ (m ≡ k)
+among_push k m [] h = elim (or_cases (eqb m k) false h) [ inl e ↦ inr (eqb-true m k e) | inr none ↦ absurd (true≢false (sym none)) ]
+among_push k m (x ∷ xs) h = elim (or_cases (eqb x k) (among k (xs ++ m ∷ [])) h) [
+  | inl here ↦ inl (or_left (eqb x k) (among k xs) here)
+  | inr later ↦ elim (among_push k m xs later) [ inl old ↦ inl (or_right (eqb x k) (among k xs) old) | inr e ↦ inr e ]
+]
+
+pub true_none : (ls : List Literal) (starts : List ℕ) (t : List Literal) → AreTrue ls starts [] t
+true_none ls starts t = record { each = λ k h. absurd (true≢false (sym h)) }
+
+pub true_more : (ls : List Literal) (starts short : List ℕ) (t : List Literal) (i : ℕ) → i < length short → AreTrue ls starts (take i short) t → HasTrue (set_of (copy ls starts (get_or short i 0))) t → AreTrue ls starts (take (i + 1) short) t
+true_more ls starts short t i lt old here = record {
+  each = λ k h. elim (among_push k (get_or short i 0) (take i short) (ap (among k) (sym (take_more short i 0 lt)) ∙ h)) [
+    | inl before ↦ old.each k before
+    | inr e ↦ subst (λ (n : ℕ). HasTrue (set_of (copy ls starts n)) t) e here
+  ];
+}
+
+pub true_grows : (ls : List Literal) (starts short : List ℕ) (t : List Literal) (x : Literal) → AreTrue ls starts short t → AreTrue ls starts short (t ++ x ∷ [])
+true_grows ls starts short t x old = record { each = λ k h. true_push (set_of (copy ls starts k)) t x (old.each k h) }

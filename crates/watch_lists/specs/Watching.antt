@@ -1,5 +1,5 @@
 -- Watched literals: when each clause is watched at two of its literals, and which trails fit the watches.
-use Rattle.std.specs.Prelude.{◌≡◌, ◌≢◌, ℕ, zero, ◌+◌, ◌^◌, ◌<◌, ◌≤◌, ◌⊎◌, Bool, true, false, eqb, List, [], length, take, map, Some, slice_get, slice_index_or}
+use Rattle.std.specs.Prelude.{◌≡◌, ◌≢◌, ℕ, zero, ◌+◌, ◌%◌, ◌^◌, ◌<◌, ◌≤◌, ◌⊎◌, Bool, true, false, eqb, List, [], length, take, map, Some, slice_get, slice_index_or}
 use Rattle.std.specs.List.{list_any, between}
 use Rattle.std.specs.declared.vec.Vec.{Vec}
 use Rattle.std.specs.declared.alloc.Global.{Global}
@@ -59,6 +59,7 @@ pub record IsEntry (literals : List Literal) (starts : List ℕ) (w : Watch) : T
 -- A watch names such a clause and one of its literals.
 pub record AreWatches (literals : List Literal) (starts : List ℕ) (lists : List (List Watch)) : Type 0 where
   pub table : IsTable literals starts
+  pub even : length lists % 2 ≡ 0
   pub low : (k l : ℕ) → k + 1 < length starts → has l (copy literals starts k) ≡ true → 2 ≤ l
   pub high : (k l : ℕ) → k + 1 < length starts → has l (copy literals starts k) ≡ true → l < length lists
   pub two : (k : ℕ) → k + 1 < length starts → 2 ≤ length (copy literals starts k) → AreTwo (copy literals starts k)

@@ -8,3 +8,4 @@ mod tests;
 pub mod trail;
 pub mod visit;
 pub mod watch;
+pub mod watches;

@@ -95,6 +95,7 @@ fn visit_watch(
     requires within { i < length (list_at (lists_of lists.old) denied.0) }
     requires list { denied.0 < length lists.old }
     ensures grown { OnOk result (IsGrown literals.old starts.now literals.new trail.old trail.new) }
+    ensures done { trail.new.done ≡ trail.old.done }
     ensures step { IfOk result (λ s. StepIs s (list_at (lists_of lists.old) denied.0) i literals.old starts.now literals.new (lists_of lists.new) trail.new denied.0) }
 {
     let list = denied.0 as usize;
@@ -119,4 +120,38 @@ fn visit_watch(
         }
         Found::False => Ok(Step::Conflict(clause + 1)),
     }
+}
+
+/// How many watches a list has.
+fn list_len(lists: &[Vec<Watch>], list: usize) -> usize
+    requires list { list < length lists.now }
+    ensures { result ≡ length (list_at (lists_of lists.now) list) }
+{
+    lists[list].len()
+}
+
+/// Looks at all watches of the literal's list, where the literal became false: the number of a
+/// clause, if one is false.
+pub fn visit_list(
+    literals: &mut [Literal],
+    starts: &[usize],
+    lists: &mut [Vec<Watch>],
+    trail: &mut Trail,
+    denied: Literal,
+) -> Result<Option<u32>, AllocError>
+    requires passing { IsPassing literals.old starts.now (lists_of lists.old) trail.old denied.0 0 }
+    requires list { denied.0 < length lists.old }
+    ensures grown { OnOk result (IsGrown literals.old starts.now literals.new trail.old trail.new) }
+    ensures done { trail.new.done ≡ trail.old.done }
+    ensures passed { IfOk result (λ o. PassedIs o literals.old starts.now literals.new (lists_of lists.new) trail.new denied.0) }
+{
+    let list = denied.0 as usize;
+    let mut i = 0;
+    while i < list_len(lists, list) {
+        match visit_watch(literals, starts, lists, trail, denied, i)? {
+            Step::At(next) => i = next,
+            Step::Conflict(number) => return Ok(Some(number)),
+        }
+    }
+    Ok(None)
 }

@@ -72,7 +72,7 @@ pub returns-in_ok-push-in-Forced-clause-grown : goal.returns-in_ok-push-in-Force
 returns-in_ok-push-in-Forced-clause-grown c =
     let looked : IsLooked c.args.starts.now c.args.literals.now c.look_at_copy.new.literals (lists_of c.args.lists.now) c.args.trail.now c.args.denied.0 c.args.i c.watch_at-watch.result = record { passing = c.requires.passing; is = c.watch_at-watch.ensures.read; long = c.look_at_copy.auto.literals; others = c.look_at_copy.ensures.others } in
     let last : IsLast c.in-Forced.literal.0 (copy c.args.literals.now c.args.starts.now c.watch_at-watch.result.clause) (copy c.look_at_copy.new.literals c.args.starts.now c.watch_at-watch.result.clause) (at c.args.trail.now.values.items) = rw (sym c.as_slice-2.ensures.value) c.in-Forced.ensures.found in
-    grown_forced c.args.starts.now c.args.literals.now c.look_at_copy.new.literals (lists_of c.args.lists.now) c.args.trail.now c.push.new.self c.args.denied.0 c.args.i c.watch_at-watch.result c.in-Forced.literal looked last c.in_ok-push-in-Forced.ensures.literals c.in_ok-push-in-Forced.ensures.reasons c.push.ensures.starts c.push.ensures.done
+    grown_forced c.args.starts.now c.args.literals.now c.look_at_copy.new.literals (lists_of c.args.lists.now) c.args.trail.now c.push.new.self c.args.denied.0 c.args.i c.watch_at-watch.result c.in-Forced.literal looked last c.in_ok-push-in-Forced.ensures.literals c.in_ok-push-in-Forced.ensures.reasons c.in_ok-push-in-Forced.ensures.values c.push.ensures.starts
 
 pub returns-in_ok-push-in-Forced-clause-step : goal.returns-in_ok-push-in-Forced-clause-step
 returns-in_ok-push-in-Forced-clause-step c =
