@@ -12,9 +12,10 @@ use Rattle.lemma_checker.proofs.LawProofs.{opposite_back}
 use Rattle.lemma_checker.proofs.CollectLemmas.{has_push_old, has_push_new, has_push_other, distinct_push}
 use Rattle.watch_lists.specs.Trails.{IsQuiet}
 use Rattle.watch_lists.specs.Scans.{IsForced, IsConflictNumber}
-use Rattle.watch_lists.specs.Watching.{copy, literal_at, watched_at, HasTrue, IsGuarded, AreGuarded, AreMet, IsPlain, AreHeld, AreForced, IsReason}
+use Rattle.watch_lists.specs.Watching.{copy, literal_at, AreTwo, watched_at, HasTrue, IsGuarded, AreGuarded, AreMet, IsPlain, AreHeld, AreForced, IsReason}
 use Rattle.watch_lists.specs.Visits.{AreSameCopies}
-use Rattle.watch_lists.proofs.Lists.{lacks_front, push_cases, get_take}
+use Rattle.watch_lists.proofs.Lists.{lacks_front, push_cases, get_take, has_front}
+use Rattle.watch_lists.proofs.LookLemmas.{first_watched, second_watched, has_place}
 use Rattle.watch_lists.proofs.TrailLemmas.{values_push, apart_push, before_push}
 
 -- a true literal stays
@@ -138,6 +139,12 @@ forced_push ls c starts clauses k t rs x held lt same o lengths =
       ];
     }
 
+front_le : (xs ys : List Literal) → take (length xs) ys ≡ xs → length xs ≤ length ys
+front_le xs ys e = omega (arith, ap length e, length-take (length xs) ys)
+
+pub front_more : (t u v : List Literal) → take (length t) u ≡ t → take (length u) v ≡ u → take (length t) v ≡ t
+front_more t u v a b = sym (take-take (length t) (length u) v (front_le t u a)) ∙ (ap (take (length t)) b ∙ a)
+
 -- one part of propagation after another
 pub forced_more : (clauses : List (List Literal)) (t u v : List Literal) (rs us ws : List ℕ) → length us ≡ length u → AreForced clauses t rs u us → AreForced clauses u us v ws → AreForced clauses t rs v ws
 forced_more clauses t u v rs us ws lengths a b =
@@ -155,6 +162,25 @@ forced_more clauses t u v rs us ws lengths a b =
         | inr past ↦ b.each p k x past at_p at_reason
       ];
     }
-  where
-    front_le : (xs ys : List Literal) → take (length xs) ys ≡ xs → length xs ≤ length ys
-    front_le xs ys e = omega (arith, ap length e, length-take (length xs) ys)
+
+-- a longer trail keeps what is true
+pub true_longer : (f : ℕ → Bool) (t u : List Literal) → take (length t) u ≡ t → HasTrue f t → HasTrue f u
+true_longer f t u front h = record { literal = h.literal; member = h.member; holds = has_front (length t) u h.literal (ap (has h.literal) front ∙ h.holds) }
+
+-- a clause whose two watches are guarded up to the end of the trail is quiet
+pub quiet_watched : (c t : List Literal) (ss : List ℕ) (d : ℕ) → d ≡ length t → AreTwo c → AreApart (set_of t) → ((x : ℕ) → has x (take 2 c) ≡ true → IsGuarded (set_of c) x t ss d) → IsQuiet c (set_of t)
+quiet_watched c t ss d all two apart g =
+    let first : has (opposite (literal_at c 0)) t ≡ true → HasTrue (set_of c) t = λ h. (g (literal_at c 0) (first_watched c two.long)).now (ap (has (opposite (literal_at c 0))) (take_all d t (omega (arith, all))) ∙ h) in
+    let second : has (opposite (literal_at c 1)) t ≡ true → HasTrue (set_of c) t = λ h. (g (literal_at c 1) (second_watched c two.long)).now (ap (has (opposite (literal_at c 1))) (take_all d t (omega (arith, all))) ∙ h) in
+    let first_in : has (literal_at c 0) c ≡ true = has_place c 0 (omega (arith, two.long)) in
+    let second_in : has (literal_at c 1) c ≡ true = has_place c 1 (omega (arith, two.long)) in
+    record {
+      not_false = λ n. (quiet_true c t apart (first (n.each (literal_at c 0) first_in))).not_false n;
+      unit = λ l o. elim (cases_eq (literal_at c 0) l) [
+        | inl e ↦ (quiet_true c t apart (second (o.others (literal_at c 1) second_in (λ q. two.different (e ∙ sym q))))).unit l o
+        | inr away ↦ (quiet_true c t apart (first (o.others (literal_at c 0) first_in away))).unit l o
+      ];
+    }
+
+pub quiet_set : (c d : List Literal) (s : ℕ → Bool) → set_of d ≡ set_of c → IsQuiet c s → IsQuiet d s
+quiet_set c d s e q = record { not_false = λ n. q.not_false (false_set d c s (sym e) n); unit = λ l o. q.unit l (others_set d c l s (sym e) o) }

@@ -5,3 +5,4 @@ pub mod WatchLists
 pub mod NameLemmas
 pub mod GuardLemmas
 pub mod VisitLemmas
+pub mod WatchesLemmas

@@ -4,7 +4,7 @@ use Rattle.std.specs.List.{swap_remove, count_by}
 use Rattle.watch_lists.proofs.TrailLemmas.{fewer_false}
 use Rattle.std.proofs.lemmas.Bool.{cases_eq, cases_lt, or_cases, or_left, or_right, eqb-true}
 use Rattle.std.proofs.lemmas.Option.{slice_get_within}
-use Rattle.std.proofs.lemmas.List.{take_more, get_or_past, drop_all, drop-set-lt, length_push, get_or_append_left}
+use Rattle.std.proofs.lemmas.List.{take_all, take_at, take_more, get_or_past, drop_all, drop-set-lt, length_push, get_or_append_left}
 use Rattle.lemma_checker.specs.declared.literal.Literal.{Literal}
 use Rattle.lemma_checker.specs.Clauses.{opposite, has, set_of, at}
 use Rattle.lemma_checker.specs.Propagation.{IsFalse}
@@ -15,7 +15,7 @@ use Rattle.watch_lists.specs.Scans.{IsForced}
 use Rattle.watch_lists.specs.Watching.{copy, list_at, names, among, literal_at, watched_at, AreTwo, IsTable, IsEntry, AreWatches, AreGuarded, IsPlain, HasTrue, AreHeld, AreForced}
 use Rattle.watch_lists.specs.Looks.{IsReordered, IsFacing, IsAway, IsMet, IsMoved, IsLast, IsLost}
 use Rattle.watch_lists.specs.Visits.{AreWatching, IsPassing, AreSameCopies, IsGrown, IsAhead, IsStopped, IsThrough, AreTrue}
-use Rattle.watch_lists.proofs.GuardLemmas.{true_push, true_set, guards_next, guards_push, plain_push, guard_more, forced_none, forced_push, forced_more, conflict_of}
+use Rattle.watch_lists.proofs.GuardLemmas.{true_push, true_set, guards_next, guards_push, plain_push, guard_more, forced_none, forced_push, forced_more, front_more, conflict_of}
 use Rattle.watch_lists.proofs.NameLemmas.{IsIn, names_step, names_set, element_set, names_removed, element_removed, removed_length, names_push_old, names_push_new}
 use Rattle.watch_lists.proofs.WatchLists.{list_other, list_same}
 use Rattle.lemma_checker.proofs.ListLemmas.{get_push}
@@ -72,6 +72,7 @@ pub grown_none : (starts : List ℕ) (ls new : List Literal) (ws : List (List Wa
 grown_none starts ls new ws t u w copies same = record {
   copies = copies;
   forced = λ clauses held. subst (λ (v : Trail). AreForced clauses t.literals.items t.reasons.items v.literals.items v.reasons.items) (sym same) (forced_none clauses t.literals.items t.reasons.items w.plain.lengths);
+  front = take_all (length t.literals.items) u.literals.items (omega (arith, ap (λ (v : Trail). length v.literals.items) same)) ∙ ap (λ (v : Trail). v.literals.items) same;
   levels = ap (λ (v : Trail). v.starts.items) same;
   balance = ap (λ (v : Trail). length v.literals.items + count_by not v.values.items) same;
 }
@@ -139,6 +140,7 @@ grown_push starts ls new ws t u k x w copies below forced literals reasons value
     record {
       copies = copies;
       forced = λ clauses held. rw (literals, reasons) (forced_push ls (copy new starts k) starts clauses k t.literals.items t.reasons.items x held below (copies.same k below) forced.others w.plain.lengths);
+      front = ap (take (length t.literals.items)) literals ∙ take_at t.literals.items (x ∷ []) (length t.literals.items) refl;
       levels = levels;
       balance = omega (arith, ap length literals, length_push t.literals.items x, ap (count_by not) values, fewer_false t.values.items x.0 (omega (arith, w.plain.size, lt)) (ap (λ (s : ℕ → Bool). s x.0) w.plain.same ∙ forced.not_true));
     }
@@ -291,6 +293,7 @@ pub grown_more : (starts : List ℕ) (ls mid new : List Literal) (t u v : Trail)
 grown_more starts ls mid new t u v lengths a b = record {
   copies = record { same = λ k lt. b.copies.same k lt ∙ a.copies.same k lt; long = λ k lt. b.copies.long k lt ∙ a.copies.long k lt };
   forced = λ clauses held. forced_more clauses t.literals.items u.literals.items v.literals.items t.reasons.items u.reasons.items v.reasons.items lengths (a.forced clauses held) (b.forced clauses (held_next starts ls mid clauses a.copies held));
+  front = front_more t.literals.items u.literals.items v.literals.items a.front b.front;
   levels = b.levels ∙ a.levels;
   balance = b.balance ∙ a.balance;
 }

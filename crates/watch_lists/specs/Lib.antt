@@ -3,3 +3,4 @@ pub mod Scans
 pub mod Watching
 pub mod Looks
 pub mod Visits
+pub mod Watches

@@ -31,6 +31,7 @@ pub record AreSameCopies (starts : List ℕ) (old new : List Literal) : Type 0 w
 pub record IsGrown (literals : List Literal) (starts : List ℕ) (new : List Literal) (before after : Trail) : Type 0 where
   pub copies : AreSameCopies starts literals new
   pub forced : (clauses : List (List Literal)) → AreHeld literals starts clauses → AreForced clauses before.literals.items before.reasons.items after.literals.items after.reasons.items
+  pub front : take (length before.literals.items) after.literals.items ≡ before.literals.items
   pub levels : after.starts.items ≡ before.starts.items
   pub balance : length after.literals.items + count_by not after.values.items ≡ length before.literals.items + count_by not before.values.items
 

@@ -1,6 +1,6 @@
 //! Unit propagation by watched literals.
 
-ghost use Rattle.std.specs.Prelude.{◌≡◌, ◌≢◌, ℕ, ◌+◌, ◌-◌, ◌*◌, ◌^◌, ◌<◌, ◌≤◌, Bool, true, false, List, [], ◌∷◌, ◌++◌, length, take, Option, Some, None, OnOk, OnErr, IfOk, IfSome, IfNone, slice_get, slice_set};
+ghost use Rattle.std.specs.Prelude.{◌≡◌, ◌≢◌, ℕ, ◌+◌, ◌-◌, ◌*◌, ◌^◌, ◌<◌, ◌≤◌, Bool, true, false, List, [], ◌∷◌, ◌++◌, length, take, count_by, not, Option, Some, None, Ok, OnOk, OnErr, IfOk, IfSome, IfNone, slice_get, slice_set};
 ghost use Rattle.lemma_checker.specs.Clauses.{at, set_of, has, opposite};
 ghost use Rattle.watch_lists.specs.Watching.{copy, lists_of, list_at, literal_at, AreTwo, IsTable};
 ghost use Rattle.watch_lists.specs.Visits.{AreWatching, IsGrown, RanIs, AreBrief, MetIs};
@@ -12,6 +12,19 @@ use crate::watch::Watch;
 use lemma_checker::literal::Literal;
 use std::alloc::AllocError;
 use std::vec::Vec;
+
+/// The clauses' literals, each clause's two watched ones first, one clause after another; where each
+/// starts, and where the last ends; by literal number the clauses that are watched at it; the
+/// clauses of fewer than two literals, and how many of these were looked at. Clauses have their
+/// numbers less 1 here.
+#[derive(Debug, Drop)]
+pub struct Watches {
+    pub(crate) literals: Vec<Literal>,
+    pub(crate) starts: Vec<usize>,
+    pub(crate) lists: Vec<Vec<Watch>>,
+    pub(crate) short: Vec<u32>,
+    pub(crate) looked: usize,
+}
 
 /// The copy of the clause of this number less 1.
 fn copy_at<'a>(literals: &'a [Literal], starts: &[usize], clause: u32) -> &'a [Literal]
@@ -69,4 +82,44 @@ fn visit_all(
         trail.done += 1;
     }
     Ok(None)
+}
+
+impl Watches {
+    ghost use Rattle.lemma_checker.specs.Propagation.{IsInEachClosed};
+    ghost use Rattle.watch_lists.specs.Scans.{IsTrailOf, ToldIs};
+    ghost use Rattle.watch_lists.specs.Watching.{AreForced};
+    ghost use Rattle.watch_lists.specs.Watches.{Holds, Fits};
+
+    /// Adds what unit propagation gives: the number of a clause, if all its literals are false.
+    pub fn propagate(&mut self, trail: &mut Trail) -> Result<Option<u32>, AllocError>
+        requires fits { Fits self.old trail.old }
+        ensures told { IfOk result (λ o. (vars : ℕ) (clauses : List (List Literal)) → Holds self.old vars clauses → ToldIs o clauses (set_of trail.new.literals.items)) }
+        ensures only_appends { OnOk result ((vars : ℕ) (clauses : List (List Literal)) → Holds self.old vars clauses → AreForced clauses trail.old.literals.items trail.old.reasons.items trail.new.literals.items trail.new.reasons.items) }
+        ensures trail { OnOk result ((vars : ℕ) (clauses : List (List Literal)) → Holds self.old vars clauses → IsTrailOf clauses trail.old → IsTrailOf clauses trail.new) }
+        ensures least { OnOk result ((vars : ℕ) (clauses : List (List Literal)) → Holds self.old vars clauses → IsInEachClosed clauses (set_of trail.old.literals.items) (set_of trail.new.literals.items)) }
+        ensures starts { OnOk result (trail.new.starts.items ≡ trail.old.starts.items) }
+        ensures done { result ≡ Ok None → trail.new.done ≡ length trail.new.literals.items }
+        ensures balance { OnOk result (length trail.new.literals.items + count_by not trail.new.values.items ≡ length trail.old.literals.items + count_by not trail.old.values.items) }
+        ensures stays_fitting { OnOk result (Fits self.new trail.new) }
+        ensures same_clauses { OnOk result ((vars : ℕ) (clauses : List (List Literal)) → Holds self.old vars clauses → Holds self.new vars clauses) }
+    {
+        let from = if trail.done == 0 { 0 } else { self.looked };
+        if let Some(number) = visit_short(
+            self.literals.as_slice(),
+            self.starts.as_slice(),
+            self.lists.as_slice(),
+            &self.short[from..],
+            trail,
+        )? {
+            return Ok(Some(number));
+        }
+        self.looked = self.short.len();
+        let told = visit_all(
+            self.literals.as_mut_slice(),
+            self.starts.as_slice(),
+            self.lists.as_mut_slice(),
+            trail,
+        )?;
+        Ok(told)
+    }
 }

@@ -28,5 +28,5 @@ loop-trail-preserved c =
     let grown = grown_more c.args.starts.now c.args.literals.now c.loop-trail.literals c.visit_list.new.literals c.args.trail.now c.loop-trail.trail c.visit_list.new.trail c.loop-trail.invariant.watching.plain.lengths c.loop-trail.invariant.grown c.in_ok-number.ensures.grown in
     record {
       watching = next_done c.args.starts.now c.visit_list.new.literals (lists_of c.visit_list.new.lists) c.visit_list.new.trail (record c.visit_list.new.trail { done = c.visit_list.new.trail.done + 1 }) c.opposite-denied.result.0 whole refl refl refl refl refl;
-      grown = record { copies = grown.copies; forced = grown.forced; levels = grown.levels; balance = grown.balance };
+      grown = record { copies = grown.copies; forced = grown.forced; front = grown.front; levels = grown.levels; balance = grown.balance };
     }
