@@ -6,3 +6,4 @@ pub mod NameLemmas
 pub mod GuardLemmas
 pub mod VisitLemmas
 pub mod WatchesLemmas
+pub mod BuildLemmas

@@ -41,7 +41,7 @@ watches_next : (starts : List ℕ) (ls new : List Literal) (ws next : List (List
 watches_next starts ls new ws next k w long_ls long_ws order others listed entries =
     let copies : AreSameCopies starts ls new = copies_next starts ls new k order others in
     record {
-      table = record { some = w.table.some; few = w.table.few; rising = w.table.rising; inside = λ i lt. omega (arith, w.table.inside i lt, long_ls) };
+      table = record { some = w.table.some; few = w.table.few; rising = w.table.rising; inside = λ i lt. omega (arith, w.table.inside i lt, long_ls); last = w.table.last ∙ sym long_ls };
       even = ap (λ (n : ℕ). n % 2) long_ws ∙ w.even;
       low = λ j l lt h. w.low j l lt (ap (λ (f : ℕ → Bool). f l) (sym (copies.same j lt)) ∙ h);
       high = λ j l lt h. omega (arith, long_ws, w.high j l lt (ap (λ (f : ℕ → Bool). f l) (sym (copies.same j lt)) ∙ h));

@@ -73,3 +73,12 @@ length_copy ls starts k table lt = length-between ls (get_or starts k 0) (get_or
 
 pub length_lists : (ls : List (Vec Watch Global)) → length (lists_of ls) ≡ length ls
 length_lists ls = length-map ls (λ (v : Vec Watch Global). v.items)
+
+-- a watch more in two lists
+pub both_lists : (ls : List (Vec Watch Global)) (f s : ℕ) (w v : Watch) (a b x y : Vec Watch Global) → f < length ls → s < length ls → f ≢ s → a.items ≡ (get_or ls f x).items ++ w ∷ [] → b.items ≡ (get_or (set ls f a) s y).items ++ v ∷ [] → lists_of (set (set ls f a) s b) ≡ set (set (lists_of ls) f (list_at (lists_of ls) f ++ w ∷ [])) s (list_at (lists_of ls) s ++ v ∷ [])
+both_lists ls f s w v a b x y lt_f lt_s away one two =
+    let at_f : (get_or ls f x).items ≡ list_at (lists_of ls) f = sym (get_or-map (λ (v : Vec Watch Global). v.items) ls f x [] lt_f) in
+    let at_s : (get_or (set ls f a) s y).items ≡ list_at (lists_of ls) s = ap (λ (v : Vec Watch Global). v.items) (get_or-set_other ls f s a y (λ e. away (sym e))) ∙ sym (get_or-map (λ (v : Vec Watch Global). v.items) ls s y [] lt_s) in
+    let a_is : a.items ≡ list_at (lists_of ls) f ++ w ∷ [] = one ∙ ap (λ (q : List Watch). q ++ w ∷ []) at_f in
+    let b_is : b.items ≡ list_at (lists_of ls) s ++ v ∷ [] = two ∙ ap (λ (q : List Watch). q ++ v ∷ []) at_s in
+    list_set (set ls f a) s b ∙ (ap (λ (q : List (List Watch)). set q s b.items) (list_set ls f a) ∙ (ap (λ (q : List Watch). set (set (lists_of ls) f q) s b.items) a_is ∙ ap (λ (q : List Watch). set (set (lists_of ls) f (list_at (lists_of ls) f ++ w ∷ [])) s q) b_is))

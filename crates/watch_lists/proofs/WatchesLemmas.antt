@@ -162,9 +162,7 @@ fits_next w v new lists t u literals at_lists starts short looked brief met grow
 pub holds_next : (w v : Watches) (new : List Literal) (vars : ℕ) (clauses : List (List Literal)) (t u : Trail) → Fits v u → length v.lists.items ≡ length w.lists.items → v.literals.items ≡ new → v.starts.items ≡ w.starts.items → IsGrown w.literals.items w.starts.items new t u → Holds w vars clauses → Holds v vars clauses
 holds_next w v new vars clauses t u fits size literals starts grown h = record {
   size = size ∙ h.size;
-  watches = fits.watching.watches;
-  short = fits.short;
-  looked = fits.looked;
+  sound = record { watches = fits.watching.watches; short = fits.short; looked = fits.looked };
   held = rw (literals, starts) (held_next w.starts.items w.literals.items new clauses grown.copies h.held);
 }
 

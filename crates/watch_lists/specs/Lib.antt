@@ -4,3 +4,4 @@ pub mod Watching
 pub mod Looks
 pub mod Visits
 pub mod Watches
+pub mod Building

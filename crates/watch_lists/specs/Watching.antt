@@ -1,5 +1,5 @@
 -- Watched literals: when each clause is watched at two of its literals, and which trails fit the watches.
-use Rattle.std.specs.Prelude.{◌≡◌, ◌≢◌, ℕ, zero, ◌+◌, ◌%◌, ◌^◌, ◌<◌, ◌≤◌, ◌⊎◌, Bool, true, false, eqb, List, [], length, take, map, Some, slice_get, slice_index_or}
+use Rattle.std.specs.Prelude.{◌≡◌, ◌≢◌, ℕ, zero, ◌+◌, ◌-◌, ◌%◌, ◌^◌, ◌<◌, ◌≤◌, ◌⊎◌, Bool, true, false, eqb, List, [], length, take, map, Some, slice_get, slice_index_or}
 use Rattle.std.specs.List.{list_any, between}
 use Rattle.std.specs.declared.vec.Vec.{Vec}
 use Rattle.std.specs.declared.alloc.Global.{Global}
@@ -19,6 +19,7 @@ pub record IsTable (literals : List Literal) (starts : List ℕ) : Type 0 where
   pub few : length starts < 2 ^ 32
   pub rising : (i j : ℕ) → i ≤ j → j < length starts → slice_index_or starts i 0 ≤ slice_index_or starts j 0
   pub inside : (i : ℕ) → i < length starts → slice_index_or starts i 0 ≤ length literals
+  pub last : slice_index_or starts (length starts - 1) 0 ≡ length literals
 
 -- the lists of watches, by the number of the literal
 abbrev pub lists_of : List (Vec Watch Global) → List (List Watch)

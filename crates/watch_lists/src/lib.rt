@@ -1,6 +1,7 @@
 //! Trails of literals, and unit propagation over clauses.
 #![tactic(auto)]
 
+pub mod build;
 pub mod look;
 pub mod scan;
 #[cfg(test)]

@@ -1,0 +1,189 @@
+//! Making watches of clauses.
+
+ghost use Rattle.std.specs.Prelude.{◌≡◌, ◌≢◌, ℕ, ◌+◌, ◌-◌, ◌*◌, ◌^◌, ◌<◌, ◌≤◌, true, List, [], ◌∷◌, ◌++◌, length, replicate, OnOk, IfOk};
+ghost use Rattle.lemma_checker.specs.Clauses.{has};
+ghost use Rattle.watch_lists.specs.Watching.{lists_of};
+ghost use Rattle.watch_lists.specs.Building.{with_first, with_both};
+
+use crate::watch::Watch;
+use crate::watches::Watches;
+use lemma_checker::formula::Formula;
+use lemma_checker::literal::Literal;
+use std::alloc::{AllocError, Global};
+use std::vec::Vec;
+
+/// Adds the literals of a clause, these two of it first.
+fn copy_clause(
+    literals: &mut Vec<Literal>,
+    clause: &[Literal],
+    first: Literal,
+    second: Literal,
+) -> Result<(), AllocError>
+    ensures { OnOk result (literals.new.items ≡ literals.old.items ++ with_first clause.now first second) }
+{
+    literals.push(first)?;
+    literals.push(second)?;
+    for literal in clause {
+        if literal.0 != first.0 && literal.0 != second.0 {
+            literals.push(*literal)?;
+        }
+    }
+    Ok(())
+}
+
+/// Lists a clause at two literals.
+fn list_both(
+    lists: &mut [Vec<Watch>],
+    clause: u32,
+    first: Literal,
+    second: Literal,
+) -> Result<(), AllocError>
+    requires first { first.0 < length lists.old }
+    requires second { second.0 < length lists.old }
+    requires different { first.0 ≢ second.0 }
+    ensures { OnOk result (lists_of lists.new ≡ with_both (lists_of lists.old) first.0 second.0 (record { clause = clause; blocker = second }) (record { clause = clause; blocker = first })) }
+{
+    lists[first.0 as usize].push(Watch {
+        clause,
+        blocker: second,
+    })?;
+    lists[second.0 as usize].push(Watch {
+        clause,
+        blocker: first,
+    })?;
+    Ok(())
+}
+
+/// As many empty lists.
+fn empty_lists(alloc: Global, count: usize) -> Result<Vec<Vec<Watch>>, AllocError>
+    ensures { IfOk result (λ v. lists_of v.items ≡ replicate count []) }
+{
+    let mut lists = Vec::new(alloc);
+    while lists.len() < count {
+        lists.push(Vec::new(alloc))?;
+    }
+    Ok(lists)
+}
+
+/// Adds a clause of fewer than two literals, of this number less 1.
+fn add_short(
+    literals: &mut Vec<Literal>,
+    starts: &mut Vec<usize>,
+    short: &mut Vec<u32>,
+    clause: &[Literal],
+    number: u32,
+) -> Result<(), AllocError>
+    ensures literals { OnOk result (literals.new.items ≡ literals.old.items ++ clause.now) }
+    ensures starts { OnOk result (starts.new.items ≡ starts.old.items ++ length literals.new.items ∷ []) }
+    ensures short { OnOk result (short.new.items ≡ short.old.items ++ number ∷ []) }
+{
+    short.push(number)?;
+    literals.extend_from_slice(clause)?;
+    starts.push(literals.len())?;
+    Ok(())
+}
+
+/// Adds a clause of two literals or more, of this number less 1, that is watched at these two.
+fn add_long(
+    literals: &mut Vec<Literal>,
+    starts: &mut Vec<usize>,
+    lists: &mut [Vec<Watch>],
+    clause: &[Literal],
+    number: u32,
+    first: Literal,
+    second: Literal,
+) -> Result<(), AllocError>
+    requires first { first.0 < length lists.old }
+    requires second { second.0 < length lists.old }
+    requires different { first.0 ≢ second.0 }
+    ensures literals { OnOk result (literals.new.items ≡ literals.old.items ++ with_first clause.now first second) }
+    ensures starts { OnOk result (starts.new.items ≡ starts.old.items ++ length literals.new.items ∷ []) }
+    ensures lists { OnOk result (lists_of lists.new ≡ with_both (lists_of lists.old) first.0 second.0 (record { clause = number; blocker = second }) (record { clause = number; blocker = first })) }
+{
+    list_both(lists, number, first, second)?;
+    copy_clause(literals, clause, first, second)?;
+    starts.push(literals.len())?;
+    Ok(())
+}
+
+impl Watches {
+    ghost use Rattle.watch_lists.specs.declared.trail.Trail.{Trail};
+    ghost use Rattle.lemma_checker.specs.Clauses.{AreDistinct};
+    ghost use Rattle.lemma_checker.specs.declared.literal.Literal.{Literal};
+    ghost use Rattle.watch_lists.specs.Watches.{AreSound, Holds, Fits, IsOf, ArePair, ArePairGuarded};
+
+    /// Watches of no clauses, over the variables 1 to `vars`.
+    fn empty(alloc: Global, vars: u32) -> Result<Watches, AllocError>
+        requires small { vars < 2 ^ 31 }
+        ensures { IfOk result (λ w. Holds w vars []) }
+    {
+        let lists = empty_lists(alloc, 2 * vars as usize + 2)?;
+        let mut starts = Vec::new(alloc);
+        starts.push(0)?;
+        Ok(Watches {
+            literals: Vec::new(alloc),
+            starts,
+            lists,
+            short: Vec::new(alloc),
+            looked: 0,
+        })
+    }
+
+    /// Adds a clause under the next number. One of two literals or more is watched at these two.
+    pub fn add(
+        &mut self,
+        clause: &[Literal],
+        first: Literal,
+        second: Literal,
+    ) -> Result<(), AllocError>
+        requires sound { AreSound self.old }
+        requires over { IsOf self.old clause.now }
+        requires pair { 2 ≤ length clause.now → ArePair clause.now first.0 second.0 }
+        ensures sound { OnOk result (AreSound self.new) }
+        ensures size { OnOk result (length self.new.lists.items ≡ length self.old.lists.items) }
+        ensures holds { OnOk result ((vars : ℕ) (clauses : List (List Literal)) → Holds self.old vars clauses → Holds self.new vars (clauses ++ clause.now ∷ [])) }
+        ensures fits { OnOk result ((t : Trail) → Fits self.old t → (2 ≤ length clause.now → ArePairGuarded clause.now first.0 second.0 t) → Fits self.new t) }
+    {
+        let count = self.starts.len();
+        if count >= 0xffff_ffff {
+            return Err(AllocError);
+        }
+        let number = count as u32 - 1;
+        if clause.len() < 2 {
+            add_short(
+                &mut self.literals,
+                &mut self.starts,
+                &mut self.short,
+                clause,
+                number,
+            )?;
+        } else {
+            add_long(
+                &mut self.literals,
+                &mut self.starts,
+                self.lists.as_mut_slice(),
+                clause,
+                number,
+                first,
+                second,
+            )?;
+        }
+        Ok(())
+    }
+
+    /// The watches of the formula's clauses, each of two literals or more at its first two.
+    pub fn of(alloc: Global, formula: &Formula) -> Result<Watches, AllocError>
+        ensures { IfOk result (λ w. Holds w formula.now.vars formula.now.clauses) }
+    {
+        let mut watches = Watches::empty(alloc, formula.vars)?;
+        for i in 0..formula.clauses.len() {
+            let clause = formula.clauses.clause(i);
+            let (first, second) = match clause {
+                [first, second, ..] => (*first, *second),
+                _ => (Literal(0), Literal(0)),
+            };
+            watches.add(clause, first, second)?;
+        }
+        Ok(watches)
+    }
+}
