@@ -3,11 +3,11 @@ use Rattle.std.proofs.Common.{◌≡◌, ◌≢◌, ℕ, zero, suc, ◌+◌, ◌
 use Rattle.std.proofs.Math.Path.{fun_ext}
 use Rattle.std.specs.List.{filter, between, list_any}
 use Rattle.std.proofs.lemmas.Bool.{cases_eq, cases_lt, or_cases, or_left, or_right, eqb-true, ne_eqb, false_from_ne_true}
-use Rattle.std.proofs.lemmas.Option.{slice_get_within}
-use Rattle.std.proofs.lemmas.List.{take-append-le, take_all, drop-append-le, drop_at, get_or_append_left, get_or_push, length_push, get_or-replicate, length-replicate, get_or_past}
+use Rattle.std.proofs.lemmas.Option.{slice_get_within, get_or_from_slice_get}
+use Rattle.std.proofs.lemmas.List.{take-append-le, take_all, take_more, drop-append-le, drop_at, get_or_append_left, get_or_push, length_push, get_or-replicate, length-replicate, get_or_past}
 use Rattle.std.proofs.lemmas.Slice.{between_is}
 use Rattle.lemma_checker.specs.declared.literal.Literal.{Literal}
-use Rattle.lemma_checker.specs.Clauses.{opposite, has, set_of}
+use Rattle.lemma_checker.specs.Clauses.{opposite, has, set_of, AreDistinct}
 use Rattle.lemma_checker.proofs.ListLemmas.{get_push}
 use Rattle.watch_lists.specs.declared.watch.Watch.{Watch}
 use Rattle.watch_lists.specs.declared.trail.Trail.{Trail}
@@ -18,7 +18,7 @@ use Rattle.watch_lists.specs.Watches.{AreSound, Holds, Fits, IsOf, ArePair, AreP
 use Rattle.watch_lists.specs.Building.{with_first, with_both}
 use Rattle.watch_lists.proofs.LookLemmas.{two_cases}
 use Rattle.watch_lists.proofs.NameLemmas.{names_push_old, names_push_new}
-use Rattle.watch_lists.proofs.Lists.{get_front}
+use Rattle.watch_lists.proofs.Lists.{get_front, has_at}
 use Rattle.watch_lists.proofs.WatchLists.{list_other, list_same, length_lists}
 use Rattle.watch_lists.proofs.GuardLemmas.{guard_set, true_set}
 
@@ -275,3 +275,66 @@ pair_guarded c f s t x p h = elim (two_cases (with_first c f s) x (omega arith) 
   | inl e ↦ subst (λ (y : ℕ). IsGuarded (set_of c) y t.literals.items t.starts.items t.done) (sym e) p.first_guarded
   | inr e ↦ subst (λ (y : ℕ). IsGuarded (set_of c) y t.literals.items t.starts.items t.done) (sym e) p.second_guarded
 ]
+
+-- no clauses yet
+pub empty_holds : (w : Watches) (vars : ℕ) → w.literals.items ≡ [] → w.starts.items ≡ 0 ∷ [] → lists_of w.lists.items ≡ replicate (2 * vars + 2) [] → w.short.items ≡ [] → w.looked ≡ 0 → Holds w vars []
+empty_holds w vars literals starts lists short looked =
+    let one : length w.starts.items ≡ 1 = ap length starts in
+    let empty : List Watch = [] in
+    let size : length (lists_of w.lists.items) ≡ 2 * vars + 2 = ap length lists ∙ length-replicate (2 * vars + 2) empty in
+    let none : (l : ℕ) → list_at (lists_of w.lists.items) l ≡ [] = λ l. ap (λ (q : List (List Watch)). list_at q l) lists ∙ (elim (cases_lt l (2 * vars + 2)) [ inl lt ↦ get_or-replicate (2 * vars + 2) l empty empty lt | inr past ↦ get_or_past (replicate (2 * vars + 2) empty) l empty (omega (arith, length-replicate (2 * vars + 2) empty)) ]) in
+    let zero_at : (i : ℕ) → get_or w.starts.items i 0 ≡ 0 = λ i. ap (λ (q : List ℕ). get_or q i 0) starts ∙ zeros i in
+    record {
+      size = omega (arith, size, length_lists w.lists.items);
+      sound = record {
+        watches = record {
+          table = record {
+            some = omega (arith, one);
+            few = omega (arith, one);
+            rising = λ i j le lt. omega (arith, zero_at i);
+            inside = λ i lt. omega (arith, zero_at i);
+            last = zero_at (length w.starts.items - 1) ∙ ap length (sym literals);
+          };
+          even = omega (arith, size);
+          low = λ k l lt h. absurd (omega (arith, one));
+          high = λ k l lt h. absurd (omega (arith, one));
+          two = λ k lt long. absurd (omega (arith, one));
+          listed = λ k x lt long h. absurd (omega (arith, one));
+          entries = λ l j v is. absurd (none_some j v (ap (λ (q : List Watch). slice_get q j) (sym (none l)) ∙ is));
+        };
+        short = record { listed = λ k lt few. absurd (omega (arith, one)); entries = λ j k is. absurd (none_number j k (ap (λ (q : List ℕ). slice_get q j) (sym short) ∙ is)) };
+        looked = omega (arith, looked);
+      };
+      held = record { count = one; same = λ k c is. absurd (cc) };
+    }
+  where
+    zeros : (i : ℕ) → ◌≡◌ {A = ℕ} (get_or (0 ∷ []) i 0) 0
+    zeros zero = refl
+    zeros (suc i) = refl
+
+    none_some : (j : ℕ) (v : Watch) → slice_get [] j ≡ Some v → ⊥
+    none_some zero v e = cc
+    none_some (suc j) v e = cc
+
+    none_number : (j k : ℕ) → slice_get [] j ≡ Some k → ⊥
+    none_number zero k e = cc
+    none_number (suc j) k e = cc
+
+-- the first two literals of a clause differ
+pub pair_of : (c : List Literal) (f s : Literal) → AreDistinct c → slice_get c 0 ≡ Some f → slice_get c 1 ≡ Some s → ArePair c f.0 s.0
+pair_of c f s d at_first at_second =
+    let f_in : has f.0 c ≡ true = has_at c 0 f at_first in
+    let s_in : has s.0 c ≡ true = has_at c 1 s at_second in
+    record {
+      first_in = f_in;
+      second_in = s_in;
+      different = λ e. true≢false (sym (first_of c at_first) ∙ (ap (λ (k : ℕ). has k (take 1 c)) e ∙ d.once 1 s at_second));
+    }
+  where
+    first_of : (xs : List Literal) → slice_get xs 0 ≡ Some f → has f.0 (take 1 xs) ≡ true
+    first_of [] is = absurd (cc)
+    first_of (x ∷ xs) is = let e : x ≡ f = cc in or_left (eqb x.0 f.0) false (eq-eqb x.0 f.0 (ap (λ (z : Literal). z.0) e))
+
+-- one clause more of the formula
+pub take_clause : (clauses : List (List Literal)) (i : ℕ) (c : List Literal) → slice_get clauses i ≡ Some c → take (i + 1) clauses ≡ take i clauses ++ c ∷ []
+take_clause clauses i c is = take_more clauses i c (slice_get_within clauses i c is) ∙ ap (λ (d : List Literal). take i clauses ++ d ∷ []) (get_or_from_slice_get clauses i c c is)

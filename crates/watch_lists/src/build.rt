@@ -1,7 +1,8 @@
 //! Making watches of clauses.
 
 ghost use Rattle.std.specs.Prelude.{◌≡◌, ◌≢◌, ℕ, ◌+◌, ◌-◌, ◌*◌, ◌^◌, ◌<◌, ◌≤◌, true, List, [], ◌∷◌, ◌++◌, length, replicate, OnOk, IfOk};
-ghost use Rattle.lemma_checker.specs.Clauses.{has};
+ghost use Rattle.lemma_checker.specs.Clauses.{has, AreDistinct};
+ghost use Rattle.watch_lists.specs.Watches.{ArePair};
 ghost use Rattle.watch_lists.specs.Watching.{lists_of};
 ghost use Rattle.watch_lists.specs.Building.{with_first, with_both};
 
@@ -54,12 +55,22 @@ fn list_both(
     Ok(())
 }
 
+/// The first two literals of a clause; literals of no variable, if it has fewer.
+fn first_two(clause: &[Literal]) -> (Literal, Literal)
+    ensures { 2 ≤ length clause.now → AreDistinct clause.now → ArePair clause.now result.0.0 result.1.0 }
+{
+    match clause {
+        [first, second, ..] => (*first, *second),
+        _ => (Literal(0), Literal(0)),
+    }
+}
+
 /// As many empty lists.
 fn empty_lists(alloc: Global, count: usize) -> Result<Vec<Vec<Watch>>, AllocError>
     ensures { IfOk result (λ v. lists_of v.items ≡ replicate count []) }
 {
     let mut lists = Vec::new(alloc);
-    while lists.len() < count {
+    'lists: while lists.len() < count {
         lists.push(Vec::new(alloc))?;
     }
     Ok(lists)
@@ -108,9 +119,8 @@ fn add_long(
 
 impl Watches {
     ghost use Rattle.watch_lists.specs.declared.trail.Trail.{Trail};
-    ghost use Rattle.lemma_checker.specs.Clauses.{AreDistinct};
     ghost use Rattle.lemma_checker.specs.declared.literal.Literal.{Literal};
-    ghost use Rattle.watch_lists.specs.Watches.{AreSound, Holds, Fits, IsOf, ArePair, ArePairGuarded};
+    ghost use Rattle.watch_lists.specs.Watches.{AreSound, Holds, Fits, IsOf, ArePairGuarded};
 
     /// Watches of no clauses, over the variables 1 to `vars`.
     fn empty(alloc: Global, vars: u32) -> Result<Watches, AllocError>
@@ -178,10 +188,7 @@ impl Watches {
         let mut watches = Watches::empty(alloc, formula.vars)?;
         for i in 0..formula.clauses.len() {
             let clause = formula.clauses.clause(i);
-            let (first, second) = match clause {
-                [first, second, ..] => (*first, *second),
-                _ => (Literal(0), Literal(0)),
-            };
+            let (first, second) = first_two(clause);
             watches.add(clause, first, second)?;
         }
         Ok(watches)

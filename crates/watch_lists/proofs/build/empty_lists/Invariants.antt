@@ -2,8 +2,8 @@ use Rattle.std.proofs.Common.{◌≡◌, ◌≤◌, ◌-◌, replicate, [], leng
 use Rattle.watch_lists.specs.Watching.{lists_of}
 use Rattle.watch_lists.proofs.build.empty_lists.Given as goal
 
-abbrev pub invariant-loop-lists : goal.invariant-loop-lists
-invariant-loop-lists l = record { empty : lists_of l.lists.items ≡ replicate (length l.lists.items) []; few : length l.lists.items ≤ l.count }
+abbrev pub invariant-lists : goal.invariant-lists
+invariant-lists l = record { empty : lists_of l.lists.items ≡ replicate (length l.lists.items) []; few : length l.lists.items ≤ l.count }
 
-abbrev pub decreases-loop-lists : goal.decreases-loop-lists
-decreases-loop-lists l = l.count - length l.lists.items
+abbrev pub decreases-lists : goal.decreases-lists
+decreases-lists l = l.count - length l.lists.items
