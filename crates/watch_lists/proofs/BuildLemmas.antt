@@ -250,7 +250,7 @@ pub record IsAdded (w v : Watches) (n : ℕ) (c d : List Literal) : Type 0 where
 pub added_holds : (w v : Watches) (n : ℕ) (c d : List Literal) (vars : ℕ) (clauses : List (List Literal)) → IsAdded w v n c d → Holds w vars clauses → Holds v vars (clauses ++ c ∷ [])
 added_holds w v n c d vars clauses a h = record { size = a.size ∙ h.size; sound = a.sound; held = held_push w.literals.items v.literals.items w.starts.items v.starts.items n c d clauses a.longer a.same h.held }
 
-among_place : (k : ℕ) (xs : List ℕ) → among k xs ≡ true → (j : ℕ) × (slice_get xs j ≡ Some k)
+pub among_place : (k : ℕ) (xs : List ℕ) → among k xs ≡ true → (j : ℕ) × (slice_get xs j ≡ Some k)
 among_place k [] h = absurd (true≢false (sym h))
 among_place k (x ∷ xs) h = elim (or_cases (eqb x k) (among k xs) h) [ inl e ↦ (0, ap (λ (y : ℕ). Some y) (eqb-true x k e)) | inr later ↦ let r : (j : ℕ) × (slice_get xs j ≡ Some k) = among_place k xs later in (suc r.0, r.1) ]
 

@@ -7,3 +7,4 @@ pub mod GuardLemmas
 pub mod VisitLemmas
 pub mod WatchesLemmas
 pub mod BuildLemmas
+pub mod FitLemmas

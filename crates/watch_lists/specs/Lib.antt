@@ -5,3 +5,4 @@ pub mod Looks
 pub mod Visits
 pub mod Watches
 pub mod Building
+pub mod FitLaws

@@ -2,6 +2,7 @@
 #![tactic(auto)]
 
 pub mod build;
+pub mod laws;
 pub mod look;
 pub mod scan;
 #[cfg(test)]

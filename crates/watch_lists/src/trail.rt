@@ -37,7 +37,8 @@ fn unset(values: &mut [bool], literals: &[Literal], place: usize)
 impl Trail {
     /// The trail without literals, over the variables 1 to `vars`.
     pub fn new(alloc: Global, vars: u32) -> Result<Trail, AllocError>
-        ensures { IfOk result (λ t. (t.literals.items ≡ []) × ((t.reasons.items ≡ []) × ((t.starts.items ≡ []) × (t.values.items ≡ replicate (2 * vars + 2) false)))) }
+        ensures empty { IfOk result (λ t. (t.literals.items ≡ []) × ((t.reasons.items ≡ []) × ((t.starts.items ≡ []) × (t.values.items ≡ replicate (2 * vars + 2) false)))) }
+        ensures done { IfOk result (λ t. t.done ≡ 0) }
     {
         let mut values = Vec::new(alloc);
         values.resize(2 * vars as usize + 2, false)?;
