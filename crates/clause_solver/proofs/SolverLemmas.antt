@@ -18,7 +18,7 @@ use Rattle.watch_lists.proofs.TrailLemmas.{trail_choose, trail_cut}
 use Rattle.clause_solver.specs.Walks.{IsStop}
 use Rattle.clause_solver.specs.Analyses.{IsNone}
 use Rattle.clause_solver.specs.Solver.{AreAssigned, IsFree, IsProper}
-use Rattle.clause_solver.proofs.StopLemmas.{stop_trail, settled_free, trail_empty}
+use Rattle.clause_solver.proofs.StopLemmas.{stop_trail, settled_free}
 
 -- the lemmas' clauses are of the variables
 pub lemmas_within : (n vars : ℕ) (a b : List (List Literal)) → AreOver vars a → AreOver vars b → n ≡ 2 * vars + 2 → AreWithin n (a ++ b)
@@ -50,10 +50,10 @@ empty_last fs added c f same n =
 pub learned_range : (vars : ℕ) (added : List (List Literal)) (c : List Literal) (l : ℕ) → AreOver vars (added ++ c ∷ []) → has l c ≡ true → (2 ≤ l) × (l < 2 * vars + 2)
 learned_range vars added c l o h = let r : IsOver vars c = o.each (length added) c (get_last added c) in (r.low l h, r.high l h)
 
-pub finish_trail : (n : ℕ) (fs added : List (List Literal)) (t : List Literal) (rs ss : List ℕ) (vs ws : List Bool) (f : ℕ → Bool) (k place : ℕ) (x : Literal) (id : ℕ) (c : List Literal) → IsTrail n (fs ++ added) t rs ss vs → IsStop t ss f x.0 k → slice_get ss k ≡ Some place → set_of c ≡ f → x.0 < n → 2 ≤ x.0 → id ≡ length (fs ++ added) + 1 → length ws ≡ n → at ws ≡ set_of (take place t) → IsTrail n (fs ++ (added ++ c ∷ [])) (take place t ++ x ∷ []) (take place rs ++ id ∷ []) (take k ss) (set ws x.0 true)
-finish_trail n fs added t rs ss vs ws f k place x id c tr st at_k same lt low number long values =
+pub finish_trail : (n : ℕ) (fs added : List (List Literal)) (t : List Literal) (rs ss : List ℕ) (vs ws : List Bool) (f : ℕ → Bool) (k place : ℕ) (x y : Literal) (id : ℕ) (c : List Literal) → IsTrail n (fs ++ added) t rs ss vs → IsStop t ss f x.0 y.0 k → slice_get ss k ≡ Some place → set_of c ≡ f → x.0 < n → 2 ≤ x.0 → id ≡ length (fs ++ added) + 1 → length ws ≡ n → at ws ≡ set_of (take place t) → IsTrail n (fs ++ (added ++ c ∷ [])) (take place t ++ x ∷ []) (take place rs ++ id ∷ []) (take k ss) (set ws x.0 true)
+finish_trail n fs added t rs ss vs ws f k place x y id c tr st at_k same lt low number long values =
     subst (λ (cs : List (List Literal)). IsTrail n cs (take place t ++ x ∷ []) (take place rs ++ id ∷ []) (take k ss) (set ws x.0 true)) (append_assoc fs added (c ∷ []))
-    (stop_trail n (fs ++ added) t rs ss vs ws f k place x id c tr st at_k same lt low number long values)
+    (stop_trail n (fs ++ added) t rs ss vs ws f k place x y id c tr st at_k same lt low number long values)
 
 -- all levels are left
 pub bottom_trail : (n : ℕ) (cs : List (List Literal)) (t : List Literal) (rs ss : List ℕ) (vs ws : List Bool) (place : ℕ) → IsTrail n cs t rs ss vs → slice_get ss 0 ≡ Some place → length ws ≡ n → at ws ≡ set_of (take place t) → IsTrail n cs (take place t) (take place rs) [] ws
@@ -104,8 +104,3 @@ new_proper cs c n = record { some = positive n.literal c n.member; single = new_
 -- no clause has been added
 pub none_new : (fs added : List (List Literal)) → added ≡ [] → AreNew fs added
 none_new fs added e = subst (AreNew fs) (sym e) (record { each = λ i c is. absurd (cc) })
-
-pub trail_start : (n : ℕ) (cs : List (List Literal)) (vs : List Bool) → vs ≡ replicate n false → IsTrail (length vs) cs [] [] [] vs
-trail_start n cs vs e =
-    let long : length vs ≡ n = ap length e ∙ length-replicate n false in
-    subst (λ (m : ℕ). IsTrail m cs [] [] [] vs) (sym long) (subst (λ (ws : List Bool). IsTrail n cs [] [] [] ws) (sym e) (trail_empty n cs))

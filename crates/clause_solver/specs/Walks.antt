@@ -1,5 +1,5 @@
 -- Going back along the trail from a false clause.
-use Rattle.std.specs.Prelude.{◌≡◌, ◌≢◌, ℕ, ◌+◌, ◌<◌, ◌≤◌, Bool, true, false, List, length, take, Some, slice_get}
+use Rattle.std.specs.Prelude.{◌≡◌, ◌≢◌, ℕ, ◌+◌, ◌<◌, ◌≤◌, ◌⊎◌, Bool, true, false, List, length, take, Some, slice_get}
 use Rattle.lemma_checker.specs.declared.literal.Literal.{Literal}
 use Rattle.lemma_checker.specs.Clauses.{opposite, has, at}
 use Rattle.lemma_checker.specs.Chains.{chain_result}
@@ -23,8 +23,8 @@ pub record IsBetween (starts : List ℕ) (low i k : ℕ) : Type 0 where
   pub until : place ≤ i
   pub lower : (j a : ℕ) → j < k → slice_get starts j ≡ Some a → a < low
 
-pub record IsFound (f : ℕ → Bool) (t : List Literal) (starts : List ℕ) (i k : ℕ) : Type 0 where
-  pub low : ℕ
+-- from place i the solver can go back to level k; the other literals of the set are denied before `low`
+pub record IsFound (f : ℕ → Bool) (t : List Literal) (starts : List ℕ) (i k low : ℕ) : Type 0 where
   pub end : IsEnd f t i low
   pub between : IsBetween starts low i k
 
@@ -35,25 +35,25 @@ pub record IsWalk (n : ℕ) (clauses : List (List Literal)) (t : List Literal) (
   pub chain : chain_result clauses ids pivots ≡ Some (at seen)
   pub below : (l : ℕ) → at seen l ≡ true → has (opposite l) (take i t) ≡ true
 
--- a literal of the set other than l that is not false in the front
-pub record HasOther (f : ℕ → Bool) (l : ℕ) (front : List Literal) : Type 0 where
-  pub other : ℕ
-  pub member : f other ≡ true
-  pub different : other ≢ l
-  pub away : has (opposite other) front ≡ false
-
--- before the start of level k the others are false and l is neither true nor false; before each lower start another one is not false
-pub record IsStop (t : List Literal) (starts : List ℕ) (f : ℕ → Bool) (l k : ℕ) : Type 0 where
+-- before the start of level k the others are false and l is neither true nor false; before each lower start the literal m
+-- is another one that is not false; where m is l itself there is no other
+pub record IsStop (t : List Literal) (starts : List ℕ) (f : ℕ → Bool) (l m k : ℕ) : Type 0 where
   pub place : ℕ
   pub is : slice_get starts k ≡ Some place
   pub member : f l ≡ true
-  pub others : (m : ℕ) → f m ≡ true → m ≢ l → has (opposite m) (take place t) ≡ true
+  pub others : (x : ℕ) → f x ≡ true → x ≢ l → has (opposite x) (take place t) ≡ true
   pub absent : has l (take place t) ≡ false
   pub free : has (opposite l) (take place t) ≡ false
-  pub lower : (j a : ℕ) → j < k → slice_get starts j ≡ Some a → HasOther f l (take a t)
+  pub second : f m ≡ true
+  pub lower : (j a : ℕ) → j < k → slice_get starts j ≡ Some a → (m ≢ l) × (has (opposite m) (take a t) ≡ false)
+  pub alone : m ≡ l → (x : ℕ) → f x ≡ true → x ≡ l
 
--- the same with the literal that stands at the place in the trail, which denies l
-pub record IsStopAt (t : List Literal) (starts : List ℕ) (f : ℕ → Bool) (i k : ℕ) : Type 0 where
-  pub literal : Literal
-  pub is : slice_get t i ≡ Some literal
-  pub stop : IsStop t starts f (opposite literal.0) k
+-- the set is what the chain gives; its literals that are denied before place p, or those of the first set that are
+-- not denied before the first level
+pub record IsClearing (n : ℕ) (clauses : List (List Literal)) (t : List Literal) (bottom p : ℕ) (first : ℕ → Bool) (seen : List Bool) (touched : List Literal) (ids pivots : List ℕ) : Type 0 where
+  pub size : length seen ≡ n
+  pub lists : Lists seen touched
+  pub chain : chain_result clauses ids pivots ≡ Some (at seen)
+  pub inside : (l : ℕ) → at seen l ≡ true → has (opposite l) t ≡ true
+  pub cases : (l : ℕ) → at seen l ≡ true → (has (opposite l) (take p t) ≡ true) ⊎ ((first l ≡ true) × (has (opposite l) (take bottom t) ≡ false))
+  pub kept : (l : ℕ) → first l ≡ true → has (opposite l) (take bottom t) ≡ false → at seen l ≡ true

@@ -1,13 +1,15 @@
 //! What is learned from a conflict: a chain, and the level to go back to.
 
 ghost use Rattle.std.specs.Prelude.{◌≡◌, ◌≢◌, ℕ, ◌+◌, ◌-◌, ◌*◌, ◌/◌, ◌^◌, ◌<◌, ◌≤◌, Bool, true, false, List, [], ◌∷◌, ◌++◌, length, take, Option, Some, None, slice_get, OnOk, IfOk, IfSome, IfNone};
+ghost use Rattle.lemma_checker.specs.declared.literal.Literal.{Literal};
 ghost use Rattle.lemma_checker.specs.Clauses.{at, set_of, has, opposite};
 ghost use Rattle.lemma_checker.specs.Checker.{Lists};
 ghost use Rattle.watch_lists.specs.Scans.{IsTrailOf, AreWithin, IsConflictNumber};
-ghost use Rattle.clause_solver.specs.Walks.{IsWalk};
-ghost use Rattle.clause_solver.specs.Analyses.{IsMarkedAt, StepIs, AnalysisIs};
+ghost use Rattle.lemma_checker.specs.Chains.{chain_result};
+ghost use Rattle.clause_solver.specs.Walks.{IsWalk, IsStop, IsClearing};
+ghost use Rattle.clause_solver.specs.Analyses.{IsMarkedAt, StepStops, StepIs, AnalysisIs};
 
-use crate::walk::stop_at;
+use crate::walk::{Found, stop_at};
 use lemma_checker::chain::{Chain, ChainFault};
 use lemma_checker::clauses::Clauses;
 use lemma_checker::literal::Literal;
@@ -16,10 +18,12 @@ use std::alloc::{AllocError, Global};
 use std::vec::Vec;
 use watch_lists::trail::Trail;
 
-/// Where the solver goes back to: the level, and the literal that the learned clause then forces.
+/// Where the solver goes back to: the level, the literal that the learned clause then forces, and
+/// the one of its others that was denied last; the same literal where it has no other.
 #[derive(Clone, Copy, Debug, Drop)]
 pub struct Stop {
     pub literal: Literal,
+    pub second: Literal,
     pub level: usize,
 }
 
@@ -84,7 +88,7 @@ fn step_back(
     chain: &mut Chain,
     open: &mut usize,
     levels: &[u32],
-) -> Result<Option<usize>, AllocError>
+) -> Result<Option<Found>, AllocError>
     requires trail { IsTrailOf (formula.now ++ added.now) trail.now }
     requires over { AreWithin (length trail.now.values.items) (formula.now ++ added.now) }
     requires within { i < length trail.now.literals.items }
@@ -96,8 +100,8 @@ fn step_back(
         return Ok(None);
     }
     let id = trail.reasons[i];
-    if let Some(level) = stop_at(*open, id, seen, trail, i) {
-        return Ok(Some(level));
+    if let Some(found) = stop_at(*open, id, seen, trail, i) {
+        return Ok(Some(found));
     }
     let before = touched.len();
     resolve_here(formula, added, trail, i, id, seen, touched, chain)?;
@@ -107,6 +111,92 @@ fn step_back(
     };
     *open = open.saturating_sub(1).saturating_add(more);
     Ok(None)
+}
+
+/// Resolves the marked set with the reason of the literal at a place before the first level, if the
+/// set has its opposite.
+fn clear_at(
+    formula: &Clauses,
+    added: &Clauses,
+    trail: &Trail,
+    p: usize,
+    seen: &mut [bool],
+    touched: &mut Vec<Literal>,
+    chain: &mut Chain,
+) -> Result<(), AllocError>
+    requires trail { IsTrailOf (formula.now ++ added.now) trail.now }
+    requires over { AreWithin (length trail.now.values.items) (formula.now ++ added.now) }
+    requires within { p < length trail.now.literals.items }
+    requires before { (i a : ℕ) → slice_get trail.now.starts.items i ≡ Some a → p < a }
+    requires size { length seen.old ≡ length trail.now.values.items }
+    requires lists { Lists seen.old touched.old.items }
+    requires inside { (l : ℕ) → at seen.old l ≡ true → has (opposite l) trail.now.literals.items ≡ true }
+    ensures { OnOk result ((bottom : ℕ) (first : ℕ → Bool) → p < bottom → IsClearing (length trail.now.values.items) (formula.now ++ added.now) trail.now.literals.items bottom (p + 1) first seen.old touched.old.items chain.old.ids.items chain.old.pivots.items → IsClearing (length trail.now.values.items) (formula.now ++ added.now) trail.now.literals.items bottom p first seen.new touched.new.items chain.new.ids.items chain.new.pivots.items) }
+{
+    let literal = trail.literals[p];
+    if !is_marked(seen, literal.opposite().0 as usize) {
+        return Ok(());
+    }
+    let id = trail.reasons[p];
+    let Some(clause) = clause_at(formula, added, id) else {
+        unreachable!();
+    };
+    let pivot = literal.variable();
+    chain.ids.push(id)?;
+    chain.pivots.push(pivot)?;
+    match resolve(seen, touched, clause, pivot) {
+        Ok(()) => Ok(()),
+        Err(ChainFault::NoMemory) => Err(AllocError),
+        Err(ChainFault::BadStep) => unreachable!(),
+    }
+}
+
+/// The literal that is denied just before `low`, if that is past `bottom`; else this one.
+fn last_denied(literals: &[Literal], bottom: usize, low: usize, literal: Literal) -> Literal
+    requires within { low ≤ length literals.now }
+    ensures high { (y : Literal) → bottom < low → slice_get literals.now (low - 1) ≡ Some y → result.0 ≡ opposite y.0 }
+    ensures low { low ≤ bottom → result ≡ literal }
+{
+    if low > bottom {
+        literals[low - 1].opposite()
+    } else {
+        literal
+    }
+}
+
+/// Where to go back to from place `i`, after the literals that are denied before the first level
+/// were resolved away.
+fn clear_bottom(
+    formula: &Clauses,
+    added: &Clauses,
+    trail: &Trail,
+    i: usize,
+    found: Found,
+    seen: &mut [bool],
+    touched: &mut Vec<Literal>,
+    chain: &mut Chain,
+) -> Result<Stop, AllocError>
+    requires trail { IsTrailOf (formula.now ++ added.now) trail.now }
+    requires over { AreWithin (length trail.now.values.items) (formula.now ++ added.now) }
+    requires within { i < length trail.now.literals.items }
+    requires stops { StepStops (length trail.now.values.items) (formula.now ++ added.now) trail.now.literals.items trail.now.starts.items i found.level found.low seen.old touched.old.items chain.old.ids.items chain.old.pivots.items }
+    ensures lists { OnOk result (Lists seen.new touched.new.items) }
+    ensures chain { OnOk result (chain_result (formula.now ++ added.now) chain.new.ids.items chain.new.pivots.items ≡ Some (at seen.new)) }
+    ensures stop { IfOk result (λ s. IsStop trail.now.literals.items trail.now.starts.items (at seen.new) s.literal.0 s.second.0 s.level) }
+{
+    let bottom = trail.starts[0];
+    let mut p = bottom;
+    while p > 0 {
+        p -= 1;
+        clear_at(formula, added, trail, p, seen, touched, chain)?;
+    }
+    let literal = trail.literals[i].opposite();
+    let second = last_denied(trail.literals.as_slice(), bottom, found.low, literal);
+    Ok(Stop {
+        literal,
+        second,
+        level: found.level,
+    })
 }
 
 /// The chain that the conflict gives, and where to go back to. `levels` has by variable the level at
@@ -147,11 +237,11 @@ pub fn analyze(
         let step = step_back(
             formula, added, trail, i, seen, touched, &mut chain, &mut open, levels,
         )?;
-        if let Some(level) = step {
-            let literal = trail.literals[i].opposite();
+        if let Some(found) = step {
+            let stop = clear_bottom(formula, added, trail, i, found, seen, touched, &mut chain)?;
             return Ok(Analysis {
                 chain,
-                stop: Some(Stop { literal, level }),
+                stop: Some(stop),
             });
         }
     }

@@ -47,19 +47,29 @@ fn level_between(starts: &[usize], low: usize, i: usize) -> Option<usize>
     }
 }
 
+/// A level to go back to, and the place before which all literals are denied but the one that is
+/// denied at the place of the walk.
+#[derive(Clone, Copy, Debug, Drop)]
+pub struct Found {
+    pub level: usize,
+    pub low: usize,
+}
+
 /// The level to go back to from place `i`, if the literal there can be the one that the clause
 /// forces. It isn't tried where `open` says that it is too early, unless the literal was chosen.
-pub fn stop_at(open: usize, id: u32, seen: &[bool], trail: &Trail, i: usize) -> Option<usize>
+pub fn stop_at(open: usize, id: u32, seen: &[bool], trail: &Trail, i: usize) -> Option<Found>
     requires within { i < length trail.now.literals.items }
     requires start { id ≡ 0 → HasStart trail.now.starts.items i }
     requires rising { AreRising trail.now.starts.items }
-    ensures some { IfSome result (λ k. IsFound (at seen.now) trail.now.literals.items trail.now.starts.items i k) }
+    ensures some { IfSome result (λ f. IsFound (at seen.now) trail.now.literals.items trail.now.starts.items i f.level f.low) }
     ensures none { IfNone result (id ≢ 0) }
 {
     if open > 1 && id != 0 {
         return None;
     }
     let low = lower_end(seen, trail.literals.as_slice(), i);
-    let level = level_between(trail.starts.as_slice(), low, i);
-    level
+    match level_between(trail.starts.as_slice(), low, i) {
+        Some(level) => Some(Found { level, low }),
+        None => None,
+    }
 }

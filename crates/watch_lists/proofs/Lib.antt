@@ -8,3 +8,4 @@ pub mod VisitLemmas
 pub mod WatchesLemmas
 pub mod BuildLemmas
 pub mod FitLemmas
+pub mod StartLemmas

@@ -2,7 +2,7 @@ use Rattle.std.proofs.Common.{arith, sym, ap, refl, ◌∙◌, ◌≡◌, ◌<�
 use Rattle.std.proofs.lemmas.Option.{slice_get_read, same_Some}
 use Rattle.lemma_checker.specs.Clauses.{at, opposite}
 use Rattle.lemma_checker.specs.declared.literal.Literal.{Literal}
-use Rattle.clause_solver.proofs.WalkLemmas.{walk_skip, stop_here}
+use Rattle.clause_solver.proofs.WalkLemmas.{walk_skip}
 use Rattle.clause_solver.proofs.analysis.step_back.Goals as goal
 
 pub returns-then-not-is_marked : goal.returns-then-not-is_marked
@@ -19,10 +19,13 @@ stop_at-requires-clause-start c = λ e.
 pub returns-in-Some : goal.returns-in-Some
 returns-in-Some c = record {
   walk = c.requires.walk;
-  stop = stop_here _ _ _ _ _ _ _ _ _ c.index-literal.result.now c.in-Some.level c.requires.trail.apart c.requires.trail.once c.requires.walk
-      (slice_get_read c.args.trail.now.literals.items (length c.args.trail.now.literals.items) c.args.i c.index-literal.result.now refl c.requires.within c.index-literal.ensures)
-      (ap (at c.args.seen.now) (sym c.opposite.ensures) ∙ (sym c.is_marked.ensures ∙ c.if-not-is_marked.false))
-      c.in-Some.ensures.some;
+  marked = record {
+    each = λ y y_is.
+        let x_is = slice_get_read c.args.trail.now.literals.items (length c.args.trail.now.literals.items) c.args.i c.index-literal.result.now refl c.requires.within c.index-literal.ensures in
+        let same : c.index-literal.result.now ≡ y = same_Some _ _ (sym x_is ∙ y_is) in
+        ap (λ (z : Literal). at c.args.seen.now (opposite z.0)) (sym same) ∙ (ap (at c.args.seen.now) (sym c.opposite.ensures) ∙ (sym c.is_marked.ensures ∙ c.if-not-is_marked.false));
+  };
+  found = c.in-Some.ensures.some;
 }
 
 pub resolve_here-requires-clause-reason : goal.resolve_here-requires-clause-reason

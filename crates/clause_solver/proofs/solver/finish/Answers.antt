@@ -35,9 +35,9 @@ returns-in_ok-push-in-Some-clause-turn c =
     record {
       state = record {
         of = rw (long, c.in_ok-push-in-Some.ensures.literals, c.in_ok-push-in-Some.ensures.reasons, c.in_ok-push-in-Some.ensures.values, c.push.ensures.starts, c.cut.ensures.literals, c.cut.ensures.reasons, c.cut.ensures.starts, c.try_chain.ensures.clauses, more.added)
-            (finish_trail _ _ _ _ _ _ _ _ _ _ _ c.in-Some.stop.literal c.in-Ok.id more.clause c.requires.state.of stop place_is same (omega (arith, range.1, c.requires.state.size, c.try_chain.ensures.vars)) range.0 (omega (arith, more.counted, count, one)) c.cut.ensures.size c.cut.ensures.values);
+            (finish_trail _ _ _ _ _ _ _ _ _ _ _ c.in-Some.stop.literal c.in-Some.stop.second c.in-Ok.id more.clause c.requires.state.of stop place_is same (omega (arith, range.1, c.requires.state.size, c.try_chain.ensures.vars)) range.0 (omega (arith, more.counted, count, one)) c.cut.ensures.size c.cut.ensures.values);
         size = long ∙ (c.requires.state.size ∙ ap (λ (v : ℕ). 2 * v + 2) (sym c.try_chain.ensures.vars));
-        news = rw (c.try_chain.ensures.clauses, more.added) (news_push _ _ more.clause c.requires.state.news (stop_new _ _ _ _ _ _ _ _ _ more.clause c.requires.state.of stop same));
+        news = rw (c.try_chain.ensures.clauses, more.added) (news_push _ _ more.clause c.requires.state.news (stop_new _ _ _ _ _ _ _ _ _ _ more.clause c.requires.state.of stop same));
       };
       more = one;
       started = omega (arith, within);

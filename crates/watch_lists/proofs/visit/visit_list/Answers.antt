@@ -1,6 +1,6 @@
-use Rattle.std.proofs.Common.{◌≤◌, length, arith, sym, ◌∙◌}
+use Rattle.std.proofs.Common.{◌≤◌, length, arith, sym, refl, ◌∙◌}
 use Rattle.watch_lists.specs.Watching.{lists_of, list_at}
-use Rattle.watch_lists.proofs.VisitLemmas.{grown_more, stopped_more, through}
+use Rattle.watch_lists.proofs.VisitLemmas.{grown_more, grown_none, same_copies, stopped_more, through}
 use Rattle.watch_lists.proofs.visit.visit_list.Goals as goal
 
 pub loop-i-preserved : goal.loop-i-preserved
@@ -24,3 +24,10 @@ pub returns-clause-passed : goal.returns-clause-passed
 returns-clause-passed c =
     let end : length (list_at (lists_of c.loop-i.lists) c.args.denied.0) ≤ c.loop-i.i = omega (arith, c.list_len.ensures, c.loop-i-test.false) in
     through c.args.starts.now c.loop-i.literals (lists_of c.loop-i.lists) c.loop-i.trail c.args.denied.0 c.loop-i.i end c.loop-i.invariant.passing
+
+pub loop-i-init : goal.loop-i-init
+loop-i-init c = record {
+  passing = c.requires.passing;
+  grown = grown_none c.args.starts.now c.args.literals.now c.args.literals.now (lists_of c.args.lists.now) c.args.trail.now c.args.trail.now c.requires.passing.watching (same_copies c.args.starts.now c.args.literals.now) refl;
+  done = refl;
+}

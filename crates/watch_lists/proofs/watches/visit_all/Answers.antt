@@ -4,7 +4,7 @@ use Rattle.lemma_checker.specs.declared.literal.Literal.{Literal}
 use Rattle.lemma_checker.specs.Clauses.{opposite}
 use Rattle.watch_lists.specs.Watching.{lists_of, list_at, literal_at}
 use Rattle.watch_lists.proofs.WatchLists.{length_lists}
-use Rattle.watch_lists.proofs.VisitLemmas.{grown_more, stopped_more, next_below, next_done}
+use Rattle.watch_lists.proofs.VisitLemmas.{grown_more, grown_none, same_copies, stopped_more, next_below, next_done}
 use Rattle.watch_lists.proofs.watches.visit_all.Goals as goal
 
 pub visit_list-requires-clause-list : goal.visit_list-requires-clause-list
@@ -30,3 +30,9 @@ loop-trail-preserved c =
       watching = next_done c.args.starts.now c.visit_list.new.literals (lists_of c.visit_list.new.lists) c.visit_list.new.trail (record c.visit_list.new.trail { done = c.visit_list.new.trail.done + 1 }) c.opposite-denied.result.0 whole refl refl refl refl refl;
       grown = record { copies = grown.copies; forced = grown.forced; front = grown.front; levels = grown.levels; balance = grown.balance };
     }
+
+pub loop-trail-init : goal.loop-trail-init
+loop-trail-init c = record {
+  watching = c.requires.watching;
+  grown = grown_none c.args.starts.now c.args.literals.now c.args.literals.now (lists_of c.args.lists.now) c.args.trail.now c.args.trail.now c.requires.watching (same_copies c.args.starts.now c.args.literals.now) refl;
+}

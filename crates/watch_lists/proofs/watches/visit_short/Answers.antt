@@ -7,7 +7,7 @@ use Rattle.watch_lists.specs.Trails.{IsQuiet}
 use Rattle.watch_lists.specs.Scans.{IsForced}
 use Rattle.watch_lists.specs.Watching.{copy, lists_of, list_at, literal_at}
 use Rattle.watch_lists.proofs.GuardLemmas.{conflict_of}
-use Rattle.watch_lists.proofs.VisitLemmas.{grown_more, grown_push, watching_push, same_copies, short_true, true_more, true_grows}
+use Rattle.watch_lists.proofs.VisitLemmas.{grown_more, grown_none, true_none, grown_push, watching_push, same_copies, short_true, true_more, true_grows}
 use Rattle.watch_lists.proofs.watches.visit_short.Goals as goal
 use Rattle.watch_lists.proofs.watches.visit_short.Goals.{in-Quiet, in-Unit+in_ok-push-in-Unit}
 
@@ -62,3 +62,11 @@ loop-clause-preserved c =
             met = rw e.literals (true_more ls starts c.args.short.now (c.loop-clause.trail.literals.items ++ x ∷ []) c.loop-clause.clause-index c.loop-clause-test.true (true_grows ls starts (take c.loop-clause.clause-index c.args.short.now) c.loop-clause.trail.literals.items x i.met) (record { literal = x.0; member = forced.others.member; holds = has_push_new c.loop-clause.trail.literals.items x }));
           })
     ]
+
+pub loop-clause-init : goal.loop-clause-init
+loop-clause-init c = record {
+  watching = c.requires.watching;
+  grown = grown_none c.args.starts.now c.args.literals.now c.args.literals.now (lists_of c.args.lists.now) c.args.trail.now c.args.trail.now c.requires.watching (same_copies c.args.starts.now c.args.literals.now) refl;
+  done = refl;
+  met = true_none c.args.literals.now c.args.starts.now c.args.trail.now.literals.items;
+}
