@@ -3,3 +3,4 @@ pub mod StopLemmas
 pub mod SolverLemmas
 pub mod FewLemmas
 pub mod AnswerLemmas
+pub mod WatchLemmas

@@ -7,6 +7,8 @@ use Rattle.lemma_checker.specs.Clauses.{opposite, has, at}
 use Rattle.lemma_checker.specs.Chains.{has_empty}
 use Rattle.lemma_checker.specs.Propagation.{DoesNotConflict, AreNew}
 use Rattle.watch_lists.specs.declared.trail.Trail.{Trail}
+use Rattle.watch_lists.specs.declared.watches.Watches.{Watches}
+use Rattle.watch_lists.specs.Watches.{Holds, Fits}
 use Rattle.watch_lists.specs.Trails.{IsSettled}
 use Rattle.watch_lists.specs.Scans.{IsTrailOf, IsConflictNumber}
 use Rattle.clause_solver.specs.declared.turn.Turn.{Turn}
@@ -45,9 +47,21 @@ pub record IsState (l : Lemmas) (t : Trail) : Type 0 where
   pub size : length t.values.items ≡ 2 * l.formula.vars + 2
   pub news : AreNew l.formula.clauses l.added
 
+-- the same with watches that hold the clauses and that the trail fits
+pub record IsReady (l : Lemmas) (w : Watches) (t : Trail) : Type 0 where
+  pub state : IsState l t
+  pub holds : Holds w l.formula.vars (all_of l)
+  pub fits : Fits w t
+
+-- two literals of the clause; if they are the same, it has no other
+pub record ArePairOrOne (c : List Literal) (first second : ℕ) : Type 0 where
+  pub first_in : has first c ≡ true
+  pub second_in : has second c ≡ true
+  pub alone : second ≡ first → (x : ℕ) → has x c ≡ true → x ≡ first
+
 -- after a lemma was learned
-pub record HasLearned (old new : Lemmas) (before after : Trail) : Type 0 where
-  pub state : IsState new after
+pub record HasLearned (old new : Lemmas) (w : Watches) (before after : Trail) : Type 0 where
+  pub ready : IsReady new w after
   pub more : length new.added ≡ length old.added + 1
   pub started : 0 < length before.starts.items
 
@@ -72,10 +86,10 @@ pub record IsSpent (l : Lemmas) (f : Formula) (budget : ℕ) : Type 0 where
   pub small : budget < 3 ^ l.formula.vars
 
 -- what a turn of learning leaves
-abbrev pub TurnIs : Turn → Lemmas → Lemmas → Trail → Trail → Type 0
-TurnIs turn.Assigned old new before after = ⊥
-TurnIs turn.Learned old new before after = HasLearned old new before after
-TurnIs turn.Refuted old new before after = has_empty (all_of new) ≡ true
+abbrev pub TurnIs : Turn → Lemmas → Lemmas → Watches → Trail → Trail → Type 0
+TurnIs turn.Assigned old new w before after = ⊥
+TurnIs turn.Learned old new w before after = HasLearned old new w before after
+TurnIs turn.Refuted old new w before after = has_empty (all_of new) ≡ true
 
 -- all variables have values under which no clause is false
 pub record IsSolved (l : Lemmas) (t : Trail) : Type 0 where
@@ -83,17 +97,35 @@ pub record IsSolved (l : Lemmas) (t : Trail) : Type 0 where
   pub model : IsModel (all_of l) l.formula.vars (at t.values.items)
 
 -- one lemma more
-pub record HasGrown (old new : Lemmas) (after : Trail) : Type 0 where
-  pub state : IsState new after
+pub record HasGrown (old new : Lemmas) (w : Watches) (after : Trail) : Type 0 where
+  pub ready : IsReady new w after
   pub more : length new.added ≡ length old.added + 1
 
 -- what a whole turn leaves
-abbrev pub RoundIs : Turn → Lemmas → Lemmas → Trail → Type 0
-RoundIs turn.Assigned old new after = IsSolved new after
-RoundIs turn.Learned old new after = HasGrown old new after
-RoundIs turn.Refuted old new after = has_empty (all_of new) ≡ true
+abbrev pub RoundIs : Turn → Lemmas → Lemmas → Watches → Trail → Type 0
+RoundIs turn.Assigned old new w after = IsSolved new after
+RoundIs turn.Learned old new w after = HasGrown old new w after
+RoundIs turn.Refuted old new w after = has_empty (all_of new) ≡ true
 
 abbrev pub SolvedIs : Solved → Formula → ℕ → Type 0
 SolvedIs (solved.Sat s) f budget = IsAbout s.formula.vars s.formula.clauses f
 SolvedIs (solved.Unsat r) f budget = IsAbout r.formula.vars r.formula.clauses f
 SolvedIs (solved.Spent l) f budget = IsSpent l f budget
+
+-- whichever answer it is, it is about the formula
+abbrev pub IsAboutFormula : Solved → Formula → Type 0
+IsAboutFormula (solved.Sat s) f = IsAbout s.formula.vars s.formula.clauses f
+IsAboutFormula (solved.Unsat r) f = IsAbout r.formula.vars r.formula.clauses f
+IsAboutFormula (solved.Spent l) f = IsAbout l.formula.vars l.formula.clauses f
+
+-- what holds of the lemmas where the budget is spent
+abbrev pub IfSpent : Solved → (Lemmas → Type 0) → Type 0
+IfSpent (solved.Sat s) P = Unit {0}
+IfSpent (solved.Unsat r) P = Unit {0}
+IfSpent (solved.Spent l) P = P l
+
+-- as many lemmas as the budget, each with its chain, with a literal and with no variable twice
+pub record IsFull (l : Lemmas) (budget : ℕ) : Type 0 where
+  pub full : budget ≤ length l.added
+  pub chains : length l.chains.items ≡ length l.added
+  pub proper : (i : ℕ) (c : List Literal) → slice_get l.added i ≡ Some c → IsProper c

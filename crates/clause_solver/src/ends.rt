@@ -4,7 +4,9 @@ ghost use Rattle.std.specs.Prelude.{◌≡◌, ℕ, ◌+◌, ◌-◌, ◌*◌, �
 ghost use Rattle.lemma_checker.specs.declared.literal.Literal.{Literal};
 ghost use Rattle.lemma_checker.specs.Clauses.{at, set_of, AreDistinct};
 ghost use Rattle.lemma_checker.specs.Chains.{has_empty};
+ghost use Rattle.watch_lists.specs.declared.watches.Watches.{Watches};
 ghost use Rattle.watch_lists.specs.Scans.{IsTrailOf};
+ghost use Rattle.watch_lists.specs.Watches.{Holds, Fits};
 ghost use Rattle.clause_solver.specs.Solver.{all_of, IsModel, IsAbout};
 
 use lemma_checker::answer::{Refutation, Satisfied};
@@ -58,6 +60,7 @@ pub fn to_bottom(trail: &mut Trail)
     requires once { AreDistinct trail.old.literals.items }
     requires inside { (i a : ℕ) → slice_get trail.old.starts.items i ≡ Some a → a < length trail.old.literals.items }
     ensures trail { (cs : List (List Literal)) → IsTrailOf cs trail.old → IsTrailOf cs trail.new }
+    ensures fits { (w : Watches) (vars : ℕ) (cs : List (List Literal)) → Holds w vars cs → IsTrailOf cs trail.old → Fits w trail.old → Fits w trail.new }
     ensures starts { trail.new.starts.items ≡ [] }
     ensures size { length trail.new.values.items ≡ length trail.old.values.items }
 {

@@ -2,16 +2,16 @@
 
 ghost use Rattle.std.specs.Prelude.{◌≡◌, ℕ, ◌+◌, ◌-◌, ◌*◌, ◌^◌, ◌<◌, ◌≤◌, Bool, true, false, List, ◌++◌, length, Option, Some, None, OnOk, IfOk, IfSome, IfNone};
 ghost use Rattle.lemma_checker.specs.Clauses.{at, set_of};
-ghost use Rattle.watch_lists.specs.Scans.{IsTrailOf, AreWithin};
-ghost use Rattle.clause_solver.specs.Solver.{AreAssigned, IsFree, EndIs};
+ghost use Rattle.watch_lists.specs.Watches.{Holds, Fits};
+ghost use Rattle.clause_solver.specs.Solver.{all_of, AreAssigned, IsFree, EndIs, IsState};
 
 use crate::order::Order;
-use lemma_checker::clauses::Clauses;
+use lemma_checker::lemmas::Lemmas;
 use lemma_checker::literal::Literal;
 use lemma_checker::resolver::is_marked;
 use std::alloc::AllocError;
-use watch_lists::scan::propagate;
 use watch_lists::trail::Trail;
+use watch_lists::watches::Watches;
 
 /// Whether the literal is of the variables, and neither true nor false.
 fn is_free(values: &[bool], vars: u32, literal: Literal) -> bool
@@ -47,33 +47,30 @@ fn free_literal(values: &[bool], vars: u32, hint: Literal) -> Option<Literal>
 /// Propagates and chooses until a clause is false, whose number it answers, or until each variable
 /// has a value.
 pub fn descend(
-    formula: &Clauses,
-    added: &Clauses,
+    lemmas: &Lemmas,
+    watches: &mut Watches,
     trail: &mut Trail,
-    vars: u32,
     order: &mut Order,
 ) -> Result<Option<u32>, AllocError>
-    requires trail { IsTrailOf (formula.now ++ added.now) trail.old }
-    requires over { AreWithin (length trail.old.values.items) (formula.now ++ added.now) }
-    requires few { length formula.now + length added.now < 2 ^ 32 - 1 }
-    requires size { length trail.old.values.items ≡ 2 * vars + 2 }
-    requires small { vars < 2 ^ 31 }
-    ensures trail { OnOk result (IsTrailOf (formula.now ++ added.now) trail.new) }
-    ensures end { IfOk result (λ o. EndIs o (formula.now ++ added.now) vars (set_of trail.new.literals.items)) }
-    ensures size { OnOk result (length trail.new.values.items ≡ length trail.old.values.items) }
+    requires state { IsState lemmas.now trail.old }
+    requires holds { Holds watches.old lemmas.now.formula.vars (all_of lemmas.now) }
+    requires fits { Fits watches.old trail.old }
+    ensures state { OnOk result (IsState lemmas.now trail.new) }
+    ensures end { IfOk result (λ o. EndIs o (all_of lemmas.now) lemmas.now.formula.vars (set_of trail.new.literals.items)) }
+    ensures holds { OnOk result (Holds watches.new lemmas.now.formula.vars (all_of lemmas.now)) }
+    ensures fits { OnOk result (Fits watches.new trail.new) }
 {
+    let formula = &lemmas.formula;
+    let vars = formula.vars;
     'descent: loop {
         let before = trail.literals.len();
-        let told = propagate(formula, added, trail)?;
+        let told = watches.propagate(trail)?;
         order.note_from(trail, before);
         if let Some(number) = told {
             return Ok(Some(number));
         }
-        match free_literal(
-            trail.values.as_slice(),
-            vars,
-            order.next(trail.values.as_slice()),
-        ) {
+        let hint = order.next(trail.values.as_slice());
+        match free_literal(trail.values.as_slice(), vars, hint) {
             Some(literal) => trail.choose(literal)?,
             None => return Ok(None),
         }

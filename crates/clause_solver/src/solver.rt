@@ -1,14 +1,18 @@
 //! The clause solver: turns of descent, analysis and learning.
 
-ghost use Rattle.std.specs.Prelude.{◌≡◌, ℕ, ◌+◌, ◌-◌, ◌*◌, ◌^◌, ◌<◌, ◌≤◌, Bool, true, false, List, [], ◌++◌, length, Option, Some, None, OnOk, OnErr, IfOk, IfSome, IfNone};
+ghost use Rattle.std.specs.Prelude.{◌≡◌, ℕ, ◌+◌, ◌-◌, ◌*◌, ◌^◌, ◌<◌, ◌≤◌, Bool, true, false, List, [], ◌∷◌, ◌++◌, length, slice_get, Option, Some, None, OnOk, OnErr, IfOk, IfSome, IfNone};
 ghost use Rattle.lemma_checker.specs.Clauses.{at, set_of};
 ghost use Rattle.lemma_checker.specs.Chains.{has_empty};
 ghost use Rattle.lemma_checker.specs.Checker.{Lists};
-ghost use Rattle.watch_lists.specs.Scans.{IsTrailOf, IsConflictNumber, ToldIs};
+ghost use Rattle.lemma_checker.specs.declared.literal.Literal.{Literal};
+ghost use Rattle.lemma_checker.specs.Propagation.{DoesNotConflict, AreNew};
+ghost use Rattle.watch_lists.specs.declared.trail.Trail.{Trail};
+ghost use Rattle.watch_lists.specs.Scans.{IsTrailOf, IsConflictNumber};
+ghost use Rattle.watch_lists.specs.Watches.{AreSound, Holds, Fits, ArePairGuarded};
 ghost use Rattle.clause_solver.specs.Analyses.{AnalysisIs};
-ghost use Rattle.clause_solver.specs.Solver.{all_of, EndIs, IsState, TurnIs, RoundIs, SolvedIs};
+ghost use Rattle.clause_solver.specs.Solver.{all_of, ArePairOrOne, IsReady, TurnIs, RoundIs, SolvedIs, IsAboutFormula, IfSpent, IsFull};
 
-use crate::analysis::{Analysis, analyze};
+use crate::analysis::{Analysis, Stop, analyze};
 use crate::answer::Solved;
 use crate::ends::{model, refute, to_bottom};
 use crate::order::Order;
@@ -20,35 +24,8 @@ use lemma_checker::lemmas::Lemmas;
 use lemma_checker::literal::Literal;
 use std::alloc::{AllocError, Global};
 use std::vec::Vec;
-use watch_lists::scan::propagate;
 use watch_lists::trail::Trail;
-
-/// Descends over the lemmas' clauses.
-fn examine(lemmas: &Lemmas, trail: &mut Trail, order: &mut Order) -> Result<Option<u32>, AllocError>
-    requires trail { IsTrailOf (all_of lemmas.now) trail.old }
-    requires size { length trail.old.values.items ≡ 2 * lemmas.now.formula.vars + 2 }
-    requires few { length lemmas.now.formula.clauses + length lemmas.now.added < 2 ^ 31 }
-    ensures trail { OnOk result (IsTrailOf (all_of lemmas.now) trail.new) }
-    ensures end { IfOk result (λ o. EndIs o (all_of lemmas.now) lemmas.now.formula.vars (set_of trail.new.literals.items)) }
-    ensures size { OnOk result (length trail.new.values.items ≡ length trail.old.values.items) }
-{
-    let formula = &lemmas.formula;
-    descend(&formula.clauses, &lemmas.added, trail, formula.vars, order)
-}
-
-/// Propagates over the lemmas' clauses.
-fn propagate_all(lemmas: &Lemmas, trail: &mut Trail) -> Result<Option<u32>, AllocError>
-    requires trail { IsTrailOf (all_of lemmas.now) trail.old }
-    requires size { length trail.old.values.items ≡ 2 * lemmas.now.formula.vars + 2 }
-    requires few { length lemmas.now.formula.clauses + length lemmas.now.added < 2 ^ 31 }
-    ensures trail { OnOk result (IsTrailOf (all_of lemmas.now) trail.new) }
-    ensures told { IfOk result (λ o. ToldIs o (all_of lemmas.now) (set_of trail.new.literals.items)) }
-    ensures starts { trail.new.starts.items ≡ trail.old.starts.items }
-    ensures size { length trail.new.values.items ≡ length trail.old.values.items }
-{
-    let formula = &lemmas.formula;
-    propagate(&formula.clauses, &lemmas.added, trail)
-}
+use watch_lists::watches::Watches;
 
 /// Analyzes a conflict over the lemmas' clauses.
 fn settle(
@@ -81,14 +58,34 @@ fn settle(
     )
 }
 
+/// Watches the last added clause at the literal that it forces, and at the one that was denied last.
+fn watch_last(lemmas: &Lemmas, watches: &mut Watches, stop: Stop) -> Result<(), AllocError>
+    requires some { 0 < length lemmas.now.added }
+    requires sound { AreSound watches.old }
+    requires size { length watches.old.lists.items ≡ 2 * lemmas.now.formula.vars + 2 }
+    requires pair { (c : List Literal) → slice_get lemmas.now.added (length lemmas.now.added - 1) ≡ Some c → ArePairOrOne c stop.literal.0 stop.second.0 }
+    ensures holds { OnOk result ((vars : ℕ) (clauses : List (List Literal)) (c : List Literal) → slice_get lemmas.now.added (length lemmas.now.added - 1) ≡ Some c → Holds watches.old vars clauses → Holds watches.new vars (clauses ++ c ∷ [])) }
+    ensures fits { OnOk result ((t : Trail) (c : List Literal) → slice_get lemmas.now.added (length lemmas.now.added - 1) ≡ Some c → Fits watches.old t → ArePairGuarded c stop.literal.0 stop.second.0 t → Fits watches.new t) }
+{
+    let last = lemmas.added.len() - 1;
+    let clause = lemmas.added.clause(last);
+    watches.add(clause, stop.literal, stop.second)?;
+    Ok(())
+}
+
 /// Adds the learned clause, and goes back with the literal that it forces.
-fn finish(lemmas: &mut Lemmas, trail: &mut Trail, analysis: Analysis) -> Result<Turn, AllocError>
-    requires state { IsState lemmas.old trail.old }
+fn finish(
+    lemmas: &mut Lemmas,
+    watches: &mut Watches,
+    trail: &mut Trail,
+    analysis: Analysis,
+) -> Result<Turn, AllocError>
+    requires ready { IsReady lemmas.old watches.old trail.old }
     requires few { length lemmas.old.formula.clauses + length lemmas.old.added < 2 ^ 31 }
     requires analysis { AnalysisIs (all_of lemmas.old) trail.old.literals.items trail.old.starts.items analysis }
     ensures vars { lemmas.new.formula.vars ≡ lemmas.old.formula.vars }
     ensures clauses { lemmas.new.formula.clauses ≡ lemmas.old.formula.clauses }
-    ensures turn { IfOk result (λ turn. TurnIs turn lemmas.old lemmas.new trail.old trail.new) }
+    ensures turn { IfOk result (λ turn. TurnIs turn lemmas.old lemmas.new watches.new trail.old trail.new) }
 {
     let Analysis { chain, stop } = analysis;
     let id = match lemmas.try_chain(chain) {
@@ -102,6 +99,7 @@ fn finish(lemmas: &mut Lemmas, trail: &mut Trail, analysis: Analysis) -> Result<
             let place = trail.starts[stop.level];
             trail.cut(stop.level, place);
             trail.push(stop.literal, id)?;
+            watch_last(lemmas, watches, stop)?;
             Ok(Turn::Learned)
         }
     }
@@ -111,27 +109,28 @@ fn finish(lemmas: &mut Lemmas, trail: &mut Trail, analysis: Analysis) -> Result<
 fn take_turn(
     alloc: Global,
     lemmas: &mut Lemmas,
+    watches: &mut Watches,
     trail: &mut Trail,
     seen: &mut [bool],
     touched: &mut Vec<Literal>,
     order: &mut Order,
 ) -> Result<Turn, AllocError>
-    requires state { IsState lemmas.old trail.old }
+    requires ready { IsReady lemmas.old watches.old trail.old }
     requires few { length lemmas.old.formula.clauses + length lemmas.old.added < 2 ^ 31 }
     requires seen { length seen.old ≡ 2 * lemmas.old.formula.vars + 2 }
     requires lists { Lists seen.old touched.old.items }
     ensures vars { lemmas.new.formula.vars ≡ lemmas.old.formula.vars }
     ensures clauses { lemmas.new.formula.clauses ≡ lemmas.old.formula.clauses }
     ensures lists { OnOk result (Lists seen.new touched.new.items) }
-    ensures turn { IfOk result (λ turn. RoundIs turn lemmas.old lemmas.new trail.new) }
+    ensures turn { IfOk result (λ turn. RoundIs turn lemmas.old lemmas.new watches.new trail.new) }
 {
-    let Some(conflict) = examine(lemmas, trail, order)? else {
+    let Some(conflict) = descend(lemmas, watches, trail, order)? else {
         return Ok(Turn::Assigned);
     };
     let levels = order.levels.as_slice();
     let analysis = settle(alloc, lemmas, trail, conflict, seen, touched, levels)?;
     order.bump(touched.as_slice());
-    let turn = finish(lemmas, trail, analysis)?;
+    let turn = finish(lemmas, watches, trail, analysis)?;
     Ok(turn)
 }
 
@@ -139,12 +138,13 @@ fn take_turn(
 fn conclude(
     alloc: Global,
     lemmas: Lemmas,
+    watches: &mut Watches,
     trail: &mut Trail,
     seen: &mut [bool],
     touched: &mut Vec<Literal>,
     levels: &[u32],
 ) -> Result<Solved, AllocError>
-    requires state { IsState lemmas trail.old }
+    requires ready { IsReady lemmas watches.old trail.old }
     requires few { length lemmas.formula.clauses + length lemmas.added < 2 ^ 31 }
     requires seen { length seen.old ≡ 2 * lemmas.formula.vars + 2 }
     requires lists { Lists seen.old touched.old.items }
@@ -152,11 +152,11 @@ fn conclude(
 {
     let mut lemmas = lemmas;
     to_bottom(trail);
-    let Some(conflict) = propagate_all(&lemmas, trail)? else {
+    let Some(conflict) = watches.propagate(trail)? else {
         return Ok(Solved::Spent(lemmas));
     };
     let analysis = settle(alloc, &lemmas, trail, conflict, seen, touched, levels)?;
-    match finish(&mut lemmas, trail, analysis)? {
+    match finish(&mut lemmas, watches, trail, analysis)? {
         Turn::Refuted => Ok(Solved::Unsat(refute(lemmas))),
         Turn::Learned | Turn::Assigned => unreachable!(),
     }
@@ -166,13 +166,14 @@ fn conclude(
 fn rounds(
     alloc: Global,
     lemmas: Lemmas,
+    watches: &mut Watches,
     trail: &mut Trail,
     seen: &mut [bool],
     touched: &mut Vec<Literal>,
     order: &mut Order,
     budget: u32,
 ) -> Result<Solved, AllocError>
-    requires state { IsState lemmas trail.old }
+    requires ready { IsReady lemmas watches.old trail.old }
     requires first { lemmas.added ≡ [] }
     requires few { length lemmas.formula.clauses + budget < 2 ^ 31 }
     requires seen { length seen.old ≡ 2 * lemmas.formula.vars + 2 }
@@ -181,7 +182,7 @@ fn rounds(
 {
     let mut lemmas = lemmas;
     for turn in 0..budget {
-        match take_turn(alloc, &mut lemmas, trail, seen, touched, order)? {
+        match take_turn(alloc, &mut lemmas, watches, trail, seen, touched, order)? {
             Turn::Assigned => {
                 let satisfied = model(alloc, lemmas, trail.values.as_slice())?;
                 return Ok(Solved::Sat(satisfied));
@@ -194,7 +195,15 @@ fn rounds(
             }
         }
     }
-    let solved = conclude(alloc, lemmas, trail, seen, touched, order.levels.as_slice())?;
+    let solved = conclude(
+        alloc,
+        lemmas,
+        watches,
+        trail,
+        seen,
+        touched,
+        order.levels.as_slice(),
+    )?;
     Ok(solved)
 }
 
@@ -203,7 +212,12 @@ fn rounds(
 pub fn solve(alloc: Global, formula: Formula, budget: u32) -> Result<Solved, AllocError>
     requires some { 1 ≤ budget }
     requires few { length formula.clauses + budget < 2 ^ 31 }
-    ensures { IfOk result (λ s. SolvedIs s formula budget) }
+    ensures answer { IfOk result (λ s. SolvedIs s formula budget) }
+    ensures same_formula { IfOk result (λ s. IsAboutFormula s formula) }
+    ensures spent_full { IfOk result (λ s. IfSpent s (λ l. IsFull l budget)) }
+    ensures spent_new { IfOk result (λ s. IfSpent s (λ l. AreNew l.formula.clauses l.added)) }
+    ensures spent_no_conflict { IfOk result (λ s. IfSpent s (λ l. DoesNotConflict (all_of l) (λ _. false))) }
+    ensures spent_not_small { IfOk result (λ s. IfSpent s (λ l. budget < 3 ^ l.formula.vars)) }
 {
     let vars = formula.vars;
     let mut trail = Trail::new(alloc, vars)?;
@@ -211,14 +225,17 @@ pub fn solve(alloc: Global, formula: Formula, budget: u32) -> Result<Solved, All
     let mut seen = Vec::new(alloc);
     seen.resize(2 * vars as usize + 2, false)?;
     let mut touched = Vec::new(alloc);
+    let mut watches = Watches::of(alloc, &formula)?;
     let lemmas = Lemmas::of(formula);
-    rounds(
+    let solved = rounds(
         alloc,
         lemmas,
+        &mut watches,
         &mut trail,
         seen.as_mut_slice(),
         &mut touched,
         &mut order,
         budget,
-    )
+    )?;
+    Ok(solved)
 }

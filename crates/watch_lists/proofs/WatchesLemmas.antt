@@ -1,5 +1,6 @@
 -- Watches as a whole: what propagation leaves of them and of the trail.
-use Rattle.std.proofs.Common.{◌≡◌, ◌≢◌, ℕ, zero, suc, ◌+◌, ◌*◌, ◌<◌, ◌≤◌, ◌⊎◌, Bool, true, false, eqb, List, [], ◌∷◌, ◌++◌, length, take, drop, get_or, Option, None, Some, slice_get, refl, ap, ◌∙◌, sym, subst, inl, inr, arith, true≢false, add-one, length-take}
+use Rattle.std.proofs.Common.{◌≡◌, ◌≢◌, ℕ, zero, suc, ◌+◌, ◌*◌, ◌<◌, ◌≤◌, ◌⊎◌, Bool, true, false, not, eqb, List, [], ◌∷◌, ◌++◌, length, take, drop, get_or, Option, None, Some, slice_get, refl, ap, ◌∙◌, sym, subst, inl, inr, arith, true≢false, add-one, length-take}
+use Rattle.std.specs.List.{count_by}
 use Rattle.std.proofs.lemmas.Bool.{cases_eq, cases_lt, or_cases, eqb-true}
 use Rattle.std.proofs.lemmas.Option.{slice_get_within, slice_get-get_or}
 use Rattle.std.proofs.lemmas.List.{take_all, take_more, take-take, take-append-drop}
@@ -181,3 +182,7 @@ short_all w t s from f grown why met = elim why [
       let before : AreTrue w.literals.items w.starts.items (take from w.short.items) s.literals.items = record { each = λ k h. true_longer (set_of (copy w.literals.items w.starts.items k)) t.literals.items s.literals.items grown.front (f.met.each k both.1 (subst (λ (n : ℕ). among k (take n w.short.items) ≡ true) both.0 h)) } in
       true_all w.starts.items w.literals.items w.short.items s.literals.items from before met
 ]
+
+-- as many values become true as literals are added
+pub grown_fewer : (starts : List ℕ) (ls new : List Literal) (t u : Trail) → IsGrown ls starts new t u → count_by not u.values.items ≤ count_by not t.values.items
+grown_fewer starts ls new t u g = omega (arith, g.balance, ap length g.front, length-take (length t.literals.items) u.literals.items)

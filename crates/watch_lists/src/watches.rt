@@ -99,7 +99,8 @@ impl Watches {
         ensures least { OnOk result ((vars : ℕ) (clauses : List (List Literal)) → Holds self.old vars clauses → IsInEachClosed clauses (set_of trail.old.literals.items) (set_of trail.new.literals.items)) }
         ensures starts { OnOk result (trail.new.starts.items ≡ trail.old.starts.items) }
         ensures done { result ≡ Ok None → trail.new.done ≡ length trail.new.literals.items }
-        ensures balance { OnOk result (length trail.new.literals.items + count_by not trail.new.values.items ≡ length trail.old.literals.items + count_by not trail.old.values.items) }
+        ensures size { OnOk result (length trail.new.values.items ≡ length trail.old.values.items) }
+        ensures fewer { OnOk result (count_by not trail.new.values.items ≤ count_by not trail.old.values.items) }
         ensures stays_fitting { OnOk result (Fits self.new trail.new) }
         ensures same_clauses { OnOk result ((vars : ℕ) (clauses : List (List Literal)) → Holds self.old vars clauses → Holds self.new vars clauses) }
     {

@@ -8,13 +8,17 @@ loop-turn-preserved c =
     let i = c.loop-turn.invariant in
     let grown = rw c.in-Learned.is at c.in_ok-take_turn.ensures.turn in
     record {
-      state = elim c.if-restarts.branch [
+      ready = elim c.if-restarts.branch [
         | then-restarts w ↦ rw w.trail-is (record {
-          of = w.to_bottom.ensures.trail _ grown.state.of;
-          size = w.to_bottom.ensures.size ∙ grown.state.size;
-          news = grown.state.news;
+          state = record {
+            of = w.to_bottom.ensures.trail _ grown.ready.state.of;
+            size = w.to_bottom.ensures.size ∙ grown.ready.state.size;
+            news = grown.ready.state.news;
+          };
+          holds = grown.ready.holds;
+          fits = w.to_bottom.ensures.fits _ _ _ grown.ready.holds grown.ready.state.of grown.ready.fits;
         })
-        | else-restarts w ↦ rw w.trail-is grown.state
+        | else-restarts w ↦ rw w.trail-is grown.ready
       ];
       count = grown.more ∙ ap (λ (n : ℕ). n + 1) i.count;
       vars = c.take_turn.ensures.vars ∙ i.vars;

@@ -9,7 +9,7 @@ use Rattle.watch_lists.specs.declared.watches.Watches.{Watches}
 use Rattle.watch_lists.specs.Watches.{Holds, Fits}
 use Rattle.watch_lists.proofs.VisitLemmas.{grown_more}
 use Rattle.watch_lists.proofs.WatchLists.{length_lists}
-use Rattle.watch_lists.proofs.WatchesLemmas.{fits_short, fits_next, holds_next, brief_from, trail_next, least_forced, short_all, told_of, watching_of, short_next, true_next}
+use Rattle.watch_lists.proofs.WatchesLemmas.{grown_fewer, fits_short, fits_next, holds_next, brief_from, trail_next, least_forced, short_all, told_of, watching_of, short_next, true_next}
 use Rattle.watch_lists.proofs.watches.Watches.propagate.Goals as goal
 use Rattle.watch_lists.proofs.watches.Watches.propagate.Goals.{then-trail-eq0, else-trail-eq0}
 
@@ -80,6 +80,29 @@ returns-clause-least c = λ vars clauses h.
     let w2 : AreWatching c.visit_all.new.literals starts (lists_of c.visit_all.new.lists) c.visit_all.new.trail = watching_of c.in_ok-told.told starts lits c.visit_all.new.literals (lists_of c.visit_all.new.lists) c.visit_all.new.trail ran in
     let g = grown_more starts lits lits c.visit_all.new.literals c.args.trail.now c.visit_short.new.trail c.visit_all.new.trail w1.plain.lengths g1 g2 in
     least_forced clauses c.args.trail.now.literals.items c.visit_all.new.trail.literals.items c.args.trail.now.reasons.items c.visit_all.new.trail.reasons.items w2.plain.lengths (g.forced clauses h.held)
+
+pub returns-in-Some-clause-fewer : goal.returns-in-Some-clause-fewer
+returns-in-Some-clause-fewer c = grown_fewer _ _ _ c.args.trail.now c.visit_short.new.trail c.in_ok-number.ensures.grown
+
+pub returns-in-Some-clause-size : goal.returns-in-Some-clause-size
+returns-in-Some-clause-size c =
+    let w = rw (c.as_slice.ensures.value, c.as_slice-2.ensures.value, c.as_slice-3.ensures.value) at c.in_ok-number.ensures.watching in
+    w.plain.size ∙ sym c.requires.fits.watching.plain.size
+
+pub returns-clause-fewer : goal.returns-clause-fewer
+returns-clause-fewer c =
+    let a = grown_fewer _ _ _ c.args.trail.now c.visit_short.new.trail c.in_ok-number.ensures.grown in
+    let b = grown_fewer _ _ _ c.visit_short.new.trail c.visit_all.new.trail c.in_ok-told.ensures.grown in
+    omega (arith, a, b)
+
+pub returns-clause-size : goal.returns-clause-size
+returns-clause-size c =
+    let lits : List Literal = c.args.self.now.literals.items in
+    let starts : List ℕ = c.args.self.now.starts.items in
+    let ran : RanIs c.in_ok-told.told lits starts c.visit_all.new.literals (lists_of c.visit_all.new.lists) c.visit_all.new.trail = rw (c.as_mut_slice.ensures.value, c.as_slice-4.ensures.value) at c.in_ok-told.ensures.ran in
+    let w2 : AreWatching c.visit_all.new.literals starts (lists_of c.visit_all.new.lists) c.visit_all.new.trail = watching_of c.in_ok-told.told starts lits c.visit_all.new.literals (lists_of c.visit_all.new.lists) c.visit_all.new.trail ran in
+    let size : length c.args.trail.now.values.items ≡ length (lists_of c.visit_all.new.lists) = c.requires.fits.watching.plain.size ∙ (length_lists c.args.self.now.lists.items ∙ (sym (ap length c.as_mut_slice-2.ensures.value) ∙ (sym c.visit_all.auto.lists ∙ sym (length_lists c.visit_all.new.lists)))) in
+    w2.plain.size ∙ sym size
 
 pub returns-clause-stays_fitting : goal.returns-clause-stays_fitting
 returns-clause-stays_fitting c =
