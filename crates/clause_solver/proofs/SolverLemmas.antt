@@ -1,8 +1,7 @@
 -- The solver's turns over plain lists.
-use Rattle.std.proofs.Common.{◌≡◌, ℕ, ◌+◌, ◌-◌, ◌*◌, ◌/◌, ◌<◌, ◌≤◌, ◌⊎◌, Bool, true, false, ◌==◌, eqb, List, [], ◌∷◌, ◌++◌, length, take, set, replicate, Some, slice_get, refl, ap, ◌∙◌, sym, subst, inl, inr, arith, true≢false, eq-eqb, append_assoc}
+use Rattle.std.proofs.Common.{◌≡◌, ℕ, ◌+◌, ◌-◌, ◌*◌, ◌/◌, ◌<◌, ◌≤◌, ◌⊎◌, Bool, true, false, ◌==◌, eqb, List, [], ◌∷◌, ◌++◌, length, take, set, Some, slice_get, refl, ap, ◌∙◌, sym, subst, inl, inr, arith, true≢false, eq-eqb, append_assoc}
 use Rattle.std.proofs.lemmas.Option.{slice_get_within}
 use Rattle.std.proofs.lemmas.Bool.{cases_Bool, or_left, or_right, false_from_ne_true, not-false}
-use Rattle.std.proofs.lemmas.List.{length-replicate}
 use Rattle.std.proofs.lemmas.List.Folds.{list_any-append}
 use Rattle.lemma_checker.specs.declared.literal.Literal.{Literal}
 use Rattle.lemma_checker.specs.Clauses.{opposite, has, set_of, at, assigned, literal_true, clause_true, Solves, IsOver, AreOver}

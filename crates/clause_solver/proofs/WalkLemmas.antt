@@ -1,6 +1,6 @@
 -- Steps of the way back along the trail.
 use Rattle.std.proofs.Common.{◌≡◌, ◌≢◌, ℕ, ◌+◌, ◌-◌, ◌*◌, ◌/◌, ◌<◌, ◌≤◌, ◌⊎◌, Bool, true, false, not, ◌||◌, eqb, List, [], ◌∷◌, ◌++◌, length, take, get_or, Some, slice_get, refl, ap, ◌∙◌, sym, inl, inr, arith, true≢false, eq-eqb}
-use Rattle.std.proofs.lemmas.Option.{slice_get_within, slice_get-get_or, get_or_from_slice_get, option_and_then_some}
+use Rattle.std.proofs.lemmas.Option.{slice_get_within, get_or_from_slice_get, option_and_then_some}
 use Rattle.std.proofs.lemmas.Bool.{or_cases, and_parts, false_from_ne_true, cases_Bool, cases_eq, ne_eqb}
 use Rattle.std.proofs.lemmas.List.{take_more}
 use Rattle.lemma_checker.specs.declared.literal.Literal.{Literal}
@@ -220,8 +220,8 @@ stop_second n cs t ss i seen touched ids pivots x y k low bottom f a once rising
     let before_i : low - 1 < i = omega (arith, found.end.within) in
     let away : (m : ℕ) → m < low → has (opposite (opposite y.0)) (take m t) ≡ false = λ m le. ap (λ (l : ℕ). has l (take m t)) (opposite_back y.0) ∙ lacks_earlier t m (low - 1) y.0 (omega arith) (once.once (low - 1) y y_is) in
     let different : opposite y.0 ≢ opposite x.0 = λ e.
-        let same : y.0 ≡ x.0 = sym (opposite_back y.0) ∙ (ap opposite e ∙ opposite_back x.0) in
-        true≢false (sym (ap (λ (l : ℕ). has l (take i t)) (sym same) ∙ has_at (take i t) (low - 1) y (get_take i t (low - 1) y before_i y_is)) ∙ once.once i x is) in
+    let same : y.0 ≡ x.0 = sym (opposite_back y.0) ∙ (ap opposite e ∙ opposite_back x.0) in
+    true≢false (sym (ap (λ (l : ℕ). has l (take i t)) (sym same) ∙ has_at (take i t) (low - 1) y (get_take i t (low - 1) y before_i y_is)) ∙ once.once i x is) in
     record {
       place = h.place;
       is = h.is;

@@ -1,9 +1,8 @@
 -- The solver's trail and its watches.
-use Rattle.std.proofs.Common.{◌≡◌, ◌≢◌, ℕ, zero, suc, ◌+◌, ◌-◌, ◌*◌, ◌<◌, ◌≤◌, Bool, true, false, List, [], ◌∷◌, ◌++◌, length, take, set, get_or, Some, slice_get, refl, ap, ◌∙◌, sym, subst, inl, inr, arith, true≢false, append_assoc}
-use Rattle.std.proofs.lemmas.Option.{slice_get_within, slice_get-get_or, same_Some}
-use Rattle.std.proofs.lemmas.List.{append-nil, take-take, take-append-le, length-take-le, length_push}
+use Rattle.std.proofs.Common.{◌≡◌, ℕ, ◌+◌, ◌-◌, ◌*◌, ◌<◌, ◌≤◌, Bool, true, List, [], ◌∷◌, ◌++◌, length, take, set, get_or, Some, slice_get, ap, ◌∙◌, sym, arith, true≢false}
+use Rattle.std.proofs.lemmas.Option.{slice_get-get_or, same_Some}
+use Rattle.std.proofs.lemmas.List.{take-take, take-append-le, length-take-le, length_push}
 use Rattle.lemma_checker.specs.declared.literal.Literal.{Literal}
-use Rattle.lemma_checker.specs.declared.lemmas.Lemmas.{Lemmas}
 use Rattle.lemma_checker.specs.Clauses.{opposite, has, set_of, at, AreDistinct}
 use Rattle.lemma_checker.specs.Propagation.{AreApart}
 use Rattle.lemma_checker.proofs.ListLemmas.{get_last}
@@ -12,9 +11,9 @@ use Rattle.watch_lists.specs.declared.trail.Trail.{Trail}
 use Rattle.watch_lists.specs.declared.watches.Watches.{Watches}
 use Rattle.watch_lists.specs.Trails.{IsSettled, IsTrail}
 use Rattle.watch_lists.specs.Scans.{IsTrailOf}
-use Rattle.watch_lists.specs.Watching.{HasTrue, IsGuarded}
+use Rattle.watch_lists.specs.Watching.{HasTrue}
 use Rattle.watch_lists.specs.Watches.{Holds, Fits, ArePair, ArePairGuarded}
-use Rattle.watch_lists.specs.FitLaws.{IsCut, IsPushed}
+use Rattle.watch_lists.specs.FitLaws.{IsCut}
 use Rattle.watch_lists.proofs.Lists.{get_front, has_at}
 use Rattle.watch_lists.proofs.GuardLemmas.{guard_free}
 use Rattle.watch_lists.proofs.FitLemmas.{chosen_fits, cut_fits, longer_fits}

@@ -137,12 +137,12 @@ fn clear_at(
     if !is_marked(seen, literal.opposite().0 as usize) {
         return Ok(());
     }
-    let id = trail.reasons[p];
-    let Some(clause) = clause_at(formula, added, id) else {
+    let reason = trail.reasons[p];
+    let Some(clause) = clause_at(formula, added, reason) else {
         unreachable!();
     };
     let pivot = literal.variable();
-    chain.ids.push(id)?;
+    chain.ids.push(reason)?;
     chain.pivots.push(pivot)?;
     match resolve(seen, touched, clause, pivot) {
         Ok(()) => Ok(()),

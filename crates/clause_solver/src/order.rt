@@ -1,5 +1,5 @@
-//! The order in which variables are chosen, and their last values: this guides the search, and
-//! nothing rests on it.
+//! The order in which variables are chosen, their last values, and when the search starts again: this
+//! guides the search, and nothing rests on it.
 
 use lemma_checker::literal::Literal;
 use lemma_checker::resolver::is_marked;
@@ -7,13 +7,49 @@ use std::alloc::{AllocError, Global};
 use std::vec::Vec;
 use watch_lists::trail::Trail;
 
-/// Activities of the variables, their last values and the levels at which they got them.
+/// Where activities are made smaller, all by the same factor.
+const LIMIT: u64 = 0x4_0000_0000_0000;
+
+/// How many lemmas the shortest run between two restarts has.
+const RUN: u32 = 100;
+
+/// A heap of the variables by activity, with the place of each, counted from 1; their activities,
+/// their last values and the levels at which they got them.
 #[derive(Debug, Drop)]
 pub struct Order {
-    pub activities: Vec<u64>,
-    pub phases: Vec<bool>,
+    activities: Vec<u64>,
+    heap: Vec<u32>,
+    places: Vec<u32>,
+    phases: Vec<bool>,
     pub levels: Vec<u32>,
-    pub step: u64,
+    step: u64,
+    runs: Runs,
+}
+
+/// The lengths of the runs between restarts: 1, 1, 2, 1, 1, 2, 4 and so on, by Knuth's rule.
+#[derive(Clone, Copy, Debug, Drop)]
+struct Runs {
+    turn: u32,
+    length: u32,
+    lemmas: u32,
+}
+
+impl Runs {
+    /// Whether the run ends with this lemma.
+    fn ends(&mut self) -> bool {
+        self.lemmas = self.lemmas.saturating_add(1);
+        if self.lemmas < self.length.saturating_mul(RUN) {
+            return false;
+        }
+        self.lemmas = 0;
+        if self.turn & self.turn.wrapping_neg() == self.length {
+            self.turn = self.turn.saturating_add(1);
+            self.length = 1;
+        } else {
+            self.length = self.length.saturating_mul(2);
+        }
+        true
+    }
 }
 
 impl Order {
@@ -26,73 +62,192 @@ impl Order {
         phases.resize(size, false)?;
         let mut levels = Vec::new(alloc);
         levels.resize(size, 0)?;
+        let mut heap = Vec::new(alloc);
+        let mut places = Vec::new(alloc);
+        for variable in 0..vars {
+            heap.push(variable.saturating_add(1))?;
+            places.push(variable)?;
+        }
+        places.push(vars)?;
         Ok(Order {
             activities,
+            heap,
+            places,
             phases,
             levels,
-            step: 1,
+            step: 0x10_0000,
+            runs: Runs {
+                turn: 1,
+                length: 1,
+                lemmas: 0,
+            },
         })
     }
 
-    /// Notes the level and the sign of these literals.
-    pub fn note(&mut self, literals: &[Literal], level: usize) {
-        let level = u32::try_from(level).unwrap_or(u32::MAX);
-        for literal in literals {
-            let variable = literal.variable() as usize;
-            if let Some(place) = self.levels.get_mut(variable) {
-                *place = level;
-            }
-            if let Some(place) = self.phases.get_mut(variable) {
-                *place = !literal.is_negated();
-            }
+    /// The variable's activity.
+    fn activity(&self, variable: u32) -> u64 {
+        self.activities.get(variable as usize).copied().unwrap_or(0)
+    }
+
+    /// The variable at a place of the heap, counted from 0.
+    fn variable_at(&self, place: usize) -> Option<u32> {
+        self.heap.get(place).copied()
+    }
+
+    /// Puts a variable at a place of the heap, counted from 0.
+    fn put(&mut self, place: usize, variable: u32) {
+        if let Some(slot) = self.heap.get_mut(place) {
+            *slot = variable;
+        }
+        if let Some(slot) = self.places.get_mut(variable as usize) {
+            *slot = u32::try_from(place).unwrap_or(u32::MAX).saturating_add(1);
         }
     }
 
-    /// Raises the activities of these literals' variables.
+    /// Moves the variable at a place towards the root, past those of lower activity.
+    fn rise(&mut self, start: usize, variable: u32) {
+        let activity = self.activity(variable);
+        let mut place = start;
+        for _ in 0..64u32 {
+            if place == 0 {
+                break;
+            }
+            let parent = (place - 1) / 2;
+            let Some(above) = self.variable_at(parent) else {
+                break;
+            };
+            if self.activity(above) >= activity {
+                break;
+            }
+            self.put(place, above);
+            place = parent;
+        }
+        self.put(place, variable);
+    }
+
+    /// Moves the variable at the root away from it, past those of higher activity.
+    fn sink(&mut self, variable: u32) {
+        let activity = self.activity(variable);
+        let mut place = 0usize;
+        for _ in 0..64u32 {
+            let left = place.saturating_mul(2).saturating_add(1);
+            let right = left.saturating_add(1);
+            let Some(first) = self.variable_at(left) else {
+                break;
+            };
+            let (child, below) = match self.variable_at(right) {
+                Some(second) if self.activity(second) > self.activity(first) => (right, second),
+                _ => (left, first),
+            };
+            if self.activity(below) <= activity {
+                break;
+            }
+            self.put(place, below);
+            place = child;
+        }
+        self.put(place, variable);
+    }
+
+    /// Takes the most active variable from the heap.
+    fn pop(&mut self) -> Option<u32> {
+        let top = self.variable_at(0)?;
+        let last = self.heap.pop()?;
+        if let Some(slot) = self.places.get_mut(top as usize) {
+            *slot = 0;
+        }
+        if last != top {
+            self.sink(last);
+        }
+        Some(top)
+    }
+
+    /// Puts the variable back into the heap, unless it is there.
+    fn insert(&mut self, variable: u32) -> Result<(), AllocError> {
+        if self.places.get(variable as usize).copied() == Some(0) {
+            let place = self.heap.len();
+            self.heap.push(variable)?;
+            self.rise(place, variable);
+        }
+        Ok(())
+    }
+
+    /// Puts the variables of the trail's literals from a place on back into the heap.
+    pub fn release(&mut self, trail: &Trail, place: usize) -> Result<(), AllocError> {
+        if let Some(literals) = trail.literals.as_slice().get(place..) {
+            for literal in literals {
+                self.insert(literal.variable())?;
+            }
+        }
+        Ok(())
+    }
+
+    /// Makes all activities smaller.
+    fn shrink(&mut self) {
+        for activity in self.activities.iter_mut() {
+            *activity /= 0x4000_0000;
+        }
+        self.step = self.step / 0x4000_0000 + 1;
+    }
+
+    /// Raises the activities of these literals' variables that got their values past the bottom level.
     pub fn bump(&mut self, literals: &[Literal]) {
         for literal in literals {
-            if let Some(place) = self.activities.get_mut(literal.variable() as usize) {
-                *place = place.saturating_add(self.step);
+            let variable = literal.variable();
+            if self.levels.get(variable as usize).copied().unwrap_or(0) > 0 {
+                if let Some(slot) = self.activities.get_mut(variable as usize) {
+                    *slot = slot.saturating_add(self.step);
+                }
+                let place = self.places.get(variable as usize).copied().unwrap_or(0);
+                if place > 0 {
+                    self.rise(place as usize - 1, variable);
+                }
             }
         }
+        self.step = self.step.saturating_add(self.step / 19);
+        if self.step > LIMIT {
+            self.shrink();
+        }
     }
-}
 
-impl Order {
-    /// Notes the literals that the trail gained.
+    /// Notes the literals that the trail gained, with their level and sign.
     pub fn note_from(&mut self, trail: &Trail, before: usize) {
-        let level = trail.starts.len();
+        let level = u32::try_from(trail.starts.len()).unwrap_or(u32::MAX);
         if let Some(literals) = trail.literals.as_slice().get(before.saturating_sub(1)..) {
-            self.note(literals, level);
+            for literal in literals {
+                let variable = literal.variable() as usize;
+                if let Some(slot) = self.levels.get_mut(variable) {
+                    *slot = level;
+                }
+                if let Some(slot) = self.phases.get_mut(variable) {
+                    *slot = !literal.is_negated();
+                }
+            }
         }
     }
 
     /// The literal to choose next: of the most active variable without a value, with its last sign.
-    pub fn next(&self, values: &[bool]) -> Literal {
-        let mut best = 0;
-        let mut most = 0;
-        for (variable, activity) in self.activities.iter().enumerate() {
-            let plain = 2 * variable;
-            let set = is_marked(values, plain) || is_marked(values, plain + 1);
-            if variable > 0 && !set && *activity >= most {
-                best = variable;
-                most = *activity;
+    pub fn next(&mut self, values: &[bool]) -> Literal {
+        for _ in 0..self.heap.len() {
+            let Some(variable) = self.pop() else {
+                break;
+            };
+            let plain = u64::from(variable) * 2;
+            let set = is_marked(values, plain as usize) || is_marked(values, plain as usize + 1);
+            if !set {
+                let phase = self.phases.get(variable as usize).copied().unwrap_or(false);
+                let number = variable.saturating_mul(2);
+                return if phase {
+                    Literal(number)
+                } else {
+                    Literal(number.saturating_add(1))
+                };
             }
         }
-        let phase = self.phases.get(best).copied().unwrap_or(false);
-        let plain = u32::try_from(best).unwrap_or(0).saturating_mul(2);
-        if phase {
-            Literal(plain)
-        } else {
-            Literal(plain.saturating_add(1))
-        }
+        Literal(0)
     }
-}
 
-impl Order {
     /// Whether the search starts again from the bottom after this lemma.
-    pub fn restarts(&mut self, lemma: u32) -> bool {
-        self.step = self.step.saturating_add(self.step / 16 + 1);
-        lemma % 128 == 127
+    pub fn restarts(&mut self) -> bool {
+        self.runs.ends()
     }
 }

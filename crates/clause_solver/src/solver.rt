@@ -105,6 +105,16 @@ fn finish(
     }
 }
 
+/// Lets the variables be chosen again that lose their values where the solver goes back.
+fn release(order: &mut Order, trail: &Trail, analysis: &Analysis) -> Result<(), AllocError> {
+    if let Some(stop) = analysis.stop {
+        if let Some(place) = trail.starts.get(stop.level) {
+            order.release(trail, *place)?;
+        }
+    }
+    Ok(())
+}
+
 /// One turn: a descent, and what is learned from the conflict, if there is one.
 fn take_turn(
     alloc: Global,
@@ -130,6 +140,7 @@ fn take_turn(
     let levels = order.levels.as_slice();
     let analysis = settle(alloc, lemmas, trail, conflict, seen, touched, levels)?;
     order.bump(touched.as_slice());
+    release(order, trail, &analysis)?;
     let turn = finish(lemmas, watches, trail, analysis)?;
     Ok(turn)
 }
@@ -189,7 +200,8 @@ fn rounds(
             }
             Turn::Refuted => return Ok(Solved::Unsat(refute(lemmas))),
             Turn::Learned => {
-                if order.restarts(turn) {
+                if order.restarts() {
+                    order.release(trail, 0)?;
                     to_bottom(trail);
                 }
             }

@@ -1,20 +1,18 @@
 -- Watches with a clause more.
-use Rattle.std.proofs.Common.{◌≡◌, ◌≢◌, ℕ, zero, suc, ◌+◌, ◌-◌, ◌*◌, ◌^◌, ◌%◌, ◌<◌, ◌≤◌, ◌⊎◌, Bool, true, false, not, ◌&&◌, ◌||◌, eqb, List, [], ◌∷◌, ◌++◌, length, take, drop, get_or, set, replicate, None, Some, slice_get, refl, ap, ◌∙◌, sym, subst, inl, inr, arith, true≢false, add-one, length-set, length-append, eq-eqb}
-use Rattle.std.proofs.Math.Path.{fun_ext}
-use Rattle.std.specs.List.{filter, between, list_any}
-use Rattle.std.proofs.lemmas.Bool.{cases_eq, cases_lt, or_cases, or_left, or_right, eqb-true, ne_eqb, false_from_ne_true}
+use Rattle.std.proofs.Common.{◌≡◌, ◌≢◌, ℕ, zero, suc, ◌+◌, ◌-◌, ◌*◌, ◌^◌, ◌%◌, ◌<◌, ◌≤◌, ◌⊎◌, Bool, true, false, not, ◌&&◌, ◌||◌, eqb, List, [], ◌∷◌, ◌++◌, length, take, drop, get_or, set, replicate, Some, slice_get, refl, ap, ◌∙◌, sym, subst, inl, inr, arith, true≢false, length-set, length-append, eq-eqb}
+use Rattle.std.specs.List.{filter, between}
+use Rattle.std.proofs.lemmas.Bool.{cases_eq, cases_lt, or_cases, or_left, or_right, eqb-true, ne_eqb}
 use Rattle.std.proofs.lemmas.Option.{slice_get_within, get_or_from_slice_get}
-use Rattle.std.proofs.lemmas.List.{take-append-le, take_all, take_more, drop-append-le, drop_at, get_or_append_left, get_or_push, length_push, get_or-replicate, length-replicate, get_or_past}
+use Rattle.std.proofs.lemmas.List.{take-append-le, take_all, take_more, drop_at, get_or_append_left, get_or_push, length_push, get_or-replicate, length-replicate, get_or_past}
 use Rattle.std.proofs.lemmas.Slice.{between_is}
 use Rattle.lemma_checker.specs.declared.literal.Literal.{Literal}
-use Rattle.lemma_checker.specs.Clauses.{opposite, has, set_of, AreDistinct}
+use Rattle.lemma_checker.specs.Clauses.{has, set_of, AreDistinct}
 use Rattle.lemma_checker.proofs.ListLemmas.{get_push}
 use Rattle.watch_lists.specs.declared.watch.Watch.{Watch}
 use Rattle.watch_lists.specs.declared.trail.Trail.{Trail}
 use Rattle.watch_lists.specs.declared.watches.Watches.{Watches}
-use Rattle.watch_lists.specs.Watching.{copy, lists_of, list_at, names, among, literal_at, watched_at, AreTwo, IsTable, IsEntry, AreWatches, AreShort, AreHeld, AreGuarded, AreMet, IsGuarded, IsPlain, HasTrue}
-use Rattle.watch_lists.specs.Visits.{AreWatching}
-use Rattle.watch_lists.specs.Watches.{AreSound, Holds, Fits, IsOf, ArePair, ArePairGuarded}
+use Rattle.watch_lists.specs.Watching.{copy, lists_of, list_at, names, among, AreTwo, IsTable, IsEntry, AreWatches, AreShort, AreHeld, AreGuarded, IsGuarded, IsPlain}
+use Rattle.watch_lists.specs.Watches.{AreSound, Holds, Fits, ArePair, ArePairGuarded}
 use Rattle.watch_lists.specs.Building.{with_first, with_both}
 use Rattle.watch_lists.proofs.LookLemmas.{two_cases}
 use Rattle.watch_lists.proofs.NameLemmas.{names_push_old, names_push_new}
@@ -263,11 +261,13 @@ added_fits w v n c d t a f here = record {
   };
   short = a.sound.short;
   looked = a.sound.looked;
-  met = record { each = λ k some h.
-      let early : among k (take w.looked w.short.items) ≡ true = ap (among k) (sym a.front) ∙ (ap (λ (m : ℕ). among k (take m v.short.items)) (sym a.looked) ∙ h) in
-      let r : (j : ℕ) × (slice_get (take w.looked w.short.items) j ≡ Some k) = among_place k (take w.looked w.short.items) early in
-      let below : k + 1 < length w.starts.items = (f.short.entries r.0 k (get_front w.looked w.short.items r.0 k r.1).1).0 in
-      true_set (set_of (copy w.literals.items w.starts.items k)) (set_of (copy v.literals.items v.starts.items k)) t.literals.items (ap set_of (a.longer.old k below)) (f.met.each k some early) };
+  met = record {
+    each = λ k some h.
+        let early : among k (take w.looked w.short.items) ≡ true = ap (among k) (sym a.front) ∙ (ap (λ (m : ℕ). among k (take m v.short.items)) (sym a.looked) ∙ h) in
+        let r : (j : ℕ) × (slice_get (take w.looked w.short.items) j ≡ Some k) = among_place k (take w.looked w.short.items) early in
+        let below : k + 1 < length w.starts.items = (f.short.entries r.0 k (get_front w.looked w.short.items r.0 k r.1).1).0 in
+        true_set (set_of (copy w.literals.items w.starts.items k)) (set_of (copy v.literals.items v.starts.items k)) t.literals.items (ap set_of (a.longer.old k below)) (f.met.each k some early);
+  };
 }
 
 pub pair_guarded : (c : List Literal) (f s : Literal) (t : Trail) (x : ℕ) → ArePairGuarded c f.0 s.0 t → has x (take 2 (with_first c f s)) ≡ true → IsGuarded (set_of c) x t.literals.items t.starts.items t.done

@@ -1,21 +1,18 @@
 -- How a trail may change and still fit the watches.
-use Rattle.std.proofs.Common.{◌≡◌, ◌≢◌, ℕ, zero, suc, ◌+◌, ◌*◌, ◌<◌, ◌≤◌, ◌⊎◌, Bool, true, false, List, [], ◌∷◌, ◌++◌, length, take, get_or, set, Some, slice_get, refl, ap, ◌∙◌, sym, subst, inl, inr, arith, true≢false}
-use Rattle.std.proofs.lemmas.Bool.{cases_eq, cases_lt}
-use Rattle.std.proofs.lemmas.Option.{slice_get_within, slice_get-get_or}
+use Rattle.std.proofs.Common.{◌≡◌, ℕ, zero, suc, ◌+◌, ◌<◌, ◌≤◌, Bool, true, List, [], ◌∷◌, ◌++◌, length, take, get_or, set, Some, slice_get, ap, ◌∙◌, sym, subst, inl, inr, arith, true≢false}
+use Rattle.std.proofs.lemmas.Option.{slice_get-get_or}
 use Rattle.std.proofs.lemmas.List.{take_all, take_at, take-take, length-take-le, length_push}
 use Rattle.lemma_checker.specs.declared.literal.Literal.{Literal}
-use Rattle.lemma_checker.specs.Clauses.{opposite, has, set_of, at, AreDistinct}
+use Rattle.lemma_checker.specs.Clauses.{opposite, has, set_of, at}
 use Rattle.lemma_checker.proofs.ListLemmas.{get_push}
-use Rattle.watch_lists.specs.declared.watch.Watch.{Watch}
 use Rattle.watch_lists.specs.declared.trail.Trail.{Trail}
 use Rattle.watch_lists.specs.declared.watches.Watches.{Watches}
-use Rattle.watch_lists.specs.Trails.{IsQuiet, IsSettled}
-use Rattle.watch_lists.specs.Watching.{copy, lists_of, among, watched_at, AreGuarded, AreMet, AreHeld, IsGuarded, IsPlain, HasTrue}
-use Rattle.watch_lists.specs.Watches.{Holds, Fits, ArePairGuarded}
-use Rattle.watch_lists.specs.FitLaws.{IsTrailFor, with_done, IsCut, IsPushed, AreRising, IsOpenAtStarts, FirstFits, LongerFits, LowerFits, CutFits, ChosenFits, OpenAreGuarded}
+use Rattle.watch_lists.specs.Trails.{IsSettled}
+use Rattle.watch_lists.specs.Watching.{copy, lists_of, among, IsGuarded, IsPlain, HasTrue}
+use Rattle.watch_lists.specs.Watches.{Holds}
+use Rattle.watch_lists.specs.FitLaws.{AreRising, IsOpenAtStarts, FirstFits, LongerFits, LowerFits, CutFits, ChosenFits, OpenAreGuarded}
 use Rattle.watch_lists.proofs.Lists.{get_front, has_front, lacks_front, has_longer}
-use Rattle.watch_lists.proofs.TrailLemmas.{before_push}
-use Rattle.watch_lists.proofs.GuardLemmas.{true_push, true_set, guard_push, guards_push, plain_push, quiet_set}
+use Rattle.watch_lists.proofs.GuardLemmas.{true_push, guard_push, guards_push, plain_push, quiet_set}
 use Rattle.watch_lists.proofs.VisitLemmas.{short_true}
 use Rattle.watch_lists.proofs.BuildLemmas.{among_place}
 use Rattle.watch_lists.proofs.WatchLists.{length_lists}

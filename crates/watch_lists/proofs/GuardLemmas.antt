@@ -1,18 +1,18 @@
 -- Guards of watched literals, while a trail grows and copies change their order.
-use Rattle.std.proofs.Common.{◌≡◌, ◌≢◌, ℕ, zero, suc, ◌+◌, ◌<◌, ◌≤◌, ◌⊎◌, Bool, true, false, List, [], ◌∷◌, ◌++◌, length, take, get_or, set, Some, slice_get, refl, ap, ◌∙◌, sym, subst, inl, inr, arith, true≢false, length-set, length-take, add-one}
+use Rattle.std.proofs.Common.{◌≡◌, ℕ, ◌+◌, ◌<◌, ◌≤◌, ◌⊎◌, Bool, true, false, List, [], ◌∷◌, ◌++◌, length, take, get_or, set, Some, slice_get, refl, ap, ◌∙◌, sym, subst, inl, inr, arith, true≢false, length-set, length-take, add-one}
 use Rattle.std.proofs.lemmas.Bool.{cases_eq, cases_lt}
 use Rattle.std.proofs.lemmas.Option.{slice_get-get_or, slice_get_within}
-use Rattle.std.proofs.lemmas.List.{take_at, take_all, take_more, take-take, take-append-le, length_push}
+use Rattle.std.proofs.lemmas.List.{take_at, take_all, take_more, take-take, length_push}
 use Rattle.lemma_checker.specs.declared.literal.Literal.{Literal}
-use Rattle.lemma_checker.specs.Clauses.{opposite, has, set_of, at}
+use Rattle.lemma_checker.specs.Clauses.{opposite, has, set_of}
 use Rattle.lemma_checker.specs.Chains.{numbered}
 use Rattle.lemma_checker.specs.Propagation.{AreOthersFalse, IsFalse, AreApart}
 use Rattle.lemma_checker.proofs.ListLemmas.{get_push}
 use Rattle.lemma_checker.proofs.LawProofs.{opposite_back}
-use Rattle.lemma_checker.proofs.CollectLemmas.{has_push_old, has_push_new, has_push_other, distinct_push}
+use Rattle.lemma_checker.proofs.CollectLemmas.{has_push_old, distinct_push}
 use Rattle.watch_lists.specs.Trails.{IsQuiet}
-use Rattle.watch_lists.specs.Scans.{IsForced, IsConflictNumber}
-use Rattle.watch_lists.specs.Watching.{copy, literal_at, AreTwo, watched_at, HasTrue, IsGuarded, AreGuarded, AreMet, IsPlain, AreHeld, AreForced, IsReason}
+use Rattle.watch_lists.specs.Scans.{IsConflictNumber}
+use Rattle.watch_lists.specs.Watching.{copy, literal_at, AreTwo, watched_at, HasTrue, IsGuarded, AreGuarded, IsPlain, AreHeld, AreForced, IsReason}
 use Rattle.watch_lists.specs.Visits.{AreSameCopies}
 use Rattle.watch_lists.proofs.Lists.{lacks_front, push_cases, get_take, has_front}
 use Rattle.watch_lists.proofs.LookLemmas.{first_watched, second_watched, has_place}
@@ -130,11 +130,11 @@ forced_push ls c starts clauses k t rs x held lt same o lengths =
         | inr e ↦ elim (get_push rs (k + 1) p q at_reason) [
           | inl old ↦ absurd (omega (arith, slice_get_within rs p q old))
           | inr f ↦ record {
-              some = omega (arith, f.1);
-              clause = i.clause;
-              is = ap (numbered clauses) f.1 ∙ i.is;
-              others = subst (λ (u : List Literal). AreOthersFalse i.clause y.0 (set_of u)) (sym (ap (λ (n : ℕ). take n (t ++ x ∷ [])) e.0 ∙ front)) (subst (λ (z : Literal). AreOthersFalse i.clause z.0 (set_of t)) (sym e.1) others);
-            }
+            some = omega (arith, f.1);
+            clause = i.clause;
+            is = ap (numbered clauses) f.1 ∙ i.is;
+            others = subst (λ (u : List Literal). AreOthersFalse i.clause y.0 (set_of u)) (sym (ap (λ (n : ℕ). take n (t ++ x ∷ [])) e.0 ∙ front)) (subst (λ (z : Literal). AreOthersFalse i.clause z.0 (set_of t)) (sym e.1) others);
+          }
         ]
       ];
     }

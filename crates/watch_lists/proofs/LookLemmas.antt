@@ -1,5 +1,5 @@
 -- The first two literals of a clause, and what a look at the others finds.
-use Rattle.std.proofs.Common.{◌≡◌, ◌≢◌, ℕ, zero, suc, ◌+◌, ◌<◌, ◌≤◌, ◌⊎◌, Bool, true, false, eqb, List, [], ◌∷◌, length, take, get_or, Some, slice_get, refl, ap, ◌∙◌, sym, subst, inl, inr, arith, true≢false, eq-eqb}
+use Rattle.std.proofs.Common.{◌≡◌, ◌≢◌, ℕ, ◌<◌, ◌≤◌, ◌⊎◌, Bool, true, false, eqb, List, [], ◌∷◌, length, take, get_or, refl, ap, ◌∙◌, sym, inl, inr, arith, true≢false, eq-eqb}
 use Rattle.std.proofs.Math.Path.{fun_ext}
 use Rattle.std.specs.List.{swap}
 use Rattle.std.specs.List.Sorted.{IsPermutation}
@@ -9,11 +9,9 @@ use Rattle.std.proofs.lemmas.Option.{get_or_from_slice_get, slice_get_within}
 use Rattle.std.proofs.lemmas.Bool.{cases_eq, or_cases, or_left, or_right, eqb-true}
 use Rattle.lemma_checker.specs.declared.literal.Literal.{Literal}
 use Rattle.lemma_checker.specs.Clauses.{opposite, has, set_of}
-use Rattle.lemma_checker.specs.Propagation.{AreOthersFalse, IsFalse}
 use Rattle.lemma_checker.proofs.ClauseLemmas.{has_get_or}
-use Rattle.watch_lists.specs.Scans.{IsForced}
-use Rattle.watch_lists.specs.Watching.{AreTwo, literal_at}
-use Rattle.watch_lists.specs.Looks.{IsReordered, IsFacing, IsOther, IsMoved, IsLast, IsLost}
+use Rattle.watch_lists.specs.Watching.{literal_at}
+use Rattle.watch_lists.specs.Looks.{IsFacing, IsOther, IsMoved, IsLast, IsLost}
 use Rattle.watch_lists.proofs.Lists.{Stands, place_of}
 
 -- the watches are the literals at the first two places

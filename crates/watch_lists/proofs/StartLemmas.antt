@@ -1,10 +1,9 @@
 -- The trail without literals.
-use Rattle.std.proofs.Common.{◌≡◌, ℕ, zero, suc, ◌+◌, ◌*◌, ◌<◌, ◌≤◌, Bool, true, false, List, [], length, replicate, Some, slice_get, refl, ap, ◌∙◌, sym, subst, inl, inr, arith, true≢false}
+use Rattle.std.proofs.Common.{◌≡◌, ℕ, ◌+◌, ◌*◌, Bool, false, List, [], length, replicate, refl, ap, ◌∙◌, sym, subst, inl, inr, arith, true≢false}
 use Rattle.std.proofs.Math.Path.{fun_ext}
 use Rattle.std.proofs.lemmas.Bool.{cases_lt}
 use Rattle.std.proofs.lemmas.List.{get_or-replicate, get_or_past, length-replicate}
 use Rattle.lemma_checker.specs.declared.literal.Literal.{Literal}
-use Rattle.lemma_checker.specs.Clauses.{has, set_of, at}
 use Rattle.watch_lists.specs.declared.trail.Trail.{Trail}
 use Rattle.watch_lists.specs.declared.watches.Watches.{Watches}
 use Rattle.watch_lists.specs.Trails.{IsTrail}

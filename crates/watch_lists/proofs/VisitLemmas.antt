@@ -1,5 +1,5 @@
 -- One look at a watch: what it leaves of the watches and of the trail.
-use Rattle.std.proofs.Common.{◌≡◌, ◌≢◌, ℕ, ◌+◌, ◌-◌, ◌*◌, ◌%◌, ◌<◌, ◌≤◌, ◌⊎◌, Bool, true, false, not, eqb, List, [], ◌∷◌, ◌++◌, length, take, drop, get_or, set, Some, slice_get, refl, ap, ◌∙◌, sym, subst, inl, inr, arith, true≢false, length-set, eq-eqb}
+use Rattle.std.proofs.Common.{◌≡◌, ◌≢◌, ℕ, ◌+◌, ◌-◌, ◌%◌, ◌<◌, ◌≤◌, ◌⊎◌, Bool, true, false, not, eqb, List, [], ◌∷◌, ◌++◌, length, take, drop, get_or, set, Some, slice_get, refl, ap, ◌∙◌, sym, subst, inl, inr, arith, true≢false, length-set, eq-eqb}
 use Rattle.std.specs.List.{swap_remove, count_by}
 use Rattle.watch_lists.proofs.TrailLemmas.{fewer_false}
 use Rattle.std.proofs.lemmas.Bool.{cases_eq, cases_lt, or_cases, or_left, or_right, eqb-true}
@@ -12,7 +12,7 @@ use Rattle.watch_lists.specs.declared.watch.Watch.{Watch}
 use Rattle.watch_lists.specs.declared.trail.Trail.{Trail}
 use Rattle.watch_lists.specs.Trails.{IsQuiet}
 use Rattle.watch_lists.specs.Scans.{IsForced}
-use Rattle.watch_lists.specs.Watching.{copy, list_at, names, among, literal_at, watched_at, AreTwo, IsTable, IsEntry, AreWatches, AreGuarded, IsPlain, HasTrue, AreHeld, AreForced}
+use Rattle.watch_lists.specs.Watching.{copy, list_at, names, among, literal_at, watched_at, AreTwo, IsEntry, AreWatches, IsPlain, HasTrue, AreHeld, AreForced}
 use Rattle.watch_lists.specs.Looks.{IsReordered, IsFacing, IsAway, IsMet, IsMoved, IsLast, IsLost}
 use Rattle.watch_lists.specs.Visits.{AreWatching, IsPassing, AreSameCopies, IsGrown, IsAhead, IsStopped, IsThrough, AreTrue}
 use Rattle.watch_lists.proofs.GuardLemmas.{true_push, true_set, guards_next, guards_push, plain_push, guard_more, forced_none, forced_push, forced_more, front_more, conflict_of}

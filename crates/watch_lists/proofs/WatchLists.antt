@@ -1,18 +1,17 @@
 -- Lists of watches, by the literal, and the copies of clauses in one table.
-use Rattle.std.proofs.Common.{◌≡◌, ◌≢◌, ℕ, zero, suc, ◌+◌, ◌-◌, ◌<◌, ◌≤◌, ◌⊎◌, Bool, true, false, eqb, List, [], ◌∷◌, ◌++◌, length, take, drop, map, get_or, set, Some, slice_get, refl, ap, ◌∙◌, sym, subst, inl, inr, arith, true≢false, eq-eqb, length-set}
-use Rattle.std.specs.List.{swap_remove, between, list_any}
+use Rattle.std.proofs.Common.{◌≡◌, ◌≢◌, ℕ, ◌+◌, ◌-◌, ◌<◌, ◌≤◌, List, [], ◌∷◌, ◌++◌, length, take, drop, get_or, set, ap, ◌∙◌, sym, inl, inr, arith}
+use Rattle.std.specs.List.{swap_remove}
 use Rattle.std.specs.declared.vec.Vec.{Vec}
 use Rattle.std.specs.declared.alloc.Global.{Global}
-use Rattle.std.proofs.lemmas.Option.{slice_get_within, slice_get-get_or, get_or_from_slice_get}
-use Rattle.std.proofs.lemmas.Bool.{cases_eq, cases_order, or_cases, or_left, or_right, eqb-true}
-use Rattle.std.proofs.lemmas.List.{length-map, map-set, get_or-map, get_or-set_same, get_or-set_other, get_or-take, get_or-drop, get_or_default, length-take-le}
+use Rattle.std.proofs.lemmas.Bool.{cases_order}
+use Rattle.std.proofs.lemmas.List.{length-map, map-set, get_or-map, get_or-set_same, get_or-set_other, get_or_default}
 use Rattle.std.proofs.lemmas.Slice.{between_is, between-put_mid, take-put_mid_below, drop-put_mid}
 use Rattle.std.specs.Vec.{with_item}
 use Rattle.std.proofs.lemmas.List.Edits.{length-between}
 use borrow.Rule.Slice.PartMut.{put_mid}
 use Rattle.lemma_checker.specs.declared.literal.Literal.{Literal}
 use Rattle.watch_lists.specs.declared.watch.Watch.{Watch}
-use Rattle.watch_lists.specs.Watching.{copy, lists_of, list_at, names, IsTable}
+use Rattle.watch_lists.specs.Watching.{copy, lists_of, list_at, IsTable}
 
 -- the list of a literal
 pub list_read : (ls : List (Vec Watch Global)) (l : ℕ) (v : Vec Watch Global) → l < length ls → v ≡ get_or ls l v → list_at (lists_of ls) l ≡ v.items

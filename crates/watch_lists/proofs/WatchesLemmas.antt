@@ -1,21 +1,20 @@
 -- Watches as a whole: what propagation leaves of them and of the trail.
-use Rattle.std.proofs.Common.{◌≡◌, ◌≢◌, ℕ, zero, suc, ◌+◌, ◌*◌, ◌<◌, ◌≤◌, ◌⊎◌, Bool, true, false, not, eqb, List, [], ◌∷◌, ◌++◌, length, take, drop, get_or, Option, None, Some, slice_get, refl, ap, ◌∙◌, sym, subst, inl, inr, arith, true≢false, add-one, length-take}
+use Rattle.std.proofs.Common.{◌≡◌, ℕ, zero, suc, ◌+◌, ◌<◌, ◌≤◌, ◌⊎◌, Bool, true, not, eqb, List, [], ◌∷◌, ◌++◌, length, take, drop, get_or, Option, None, Some, slice_get, refl, ap, ◌∙◌, sym, subst, inl, inr, arith, true≢false, add-one, length-take}
 use Rattle.std.specs.List.{count_by}
-use Rattle.std.proofs.lemmas.Bool.{cases_eq, cases_lt, or_cases, eqb-true}
+use Rattle.std.proofs.lemmas.Bool.{cases_lt, or_cases, eqb-true}
 use Rattle.std.proofs.lemmas.Option.{slice_get_within, slice_get-get_or}
 use Rattle.std.proofs.lemmas.List.{take_all, take_more, take-take, take-append-drop}
 use Rattle.std.proofs.lemmas.List.Folds.{list_any-append}
 use Rattle.lemma_checker.specs.declared.literal.Literal.{Literal}
-use Rattle.lemma_checker.specs.Clauses.{opposite, has, set_of, at}
-use Rattle.lemma_checker.specs.Chains.{numbered}
-use Rattle.lemma_checker.specs.Propagation.{AreOthersFalse, AreApart, IsInEachClosed}
+use Rattle.lemma_checker.specs.Clauses.{has, set_of}
+use Rattle.lemma_checker.specs.Propagation.{AreOthersFalse, IsInEachClosed}
 use Rattle.watch_lists.specs.declared.watch.Watch.{Watch}
 use Rattle.watch_lists.specs.declared.trail.Trail.{Trail}
 use Rattle.watch_lists.specs.declared.watches.Watches.{Watches}
-use Rattle.watch_lists.specs.Trails.{IsQuiet, IsSettled, IsTrail, HasStart}
-use Rattle.watch_lists.specs.Scans.{IsTrailOf, ToldIs, IsConflictNumber}
-use Rattle.watch_lists.specs.Watching.{copy, lists_of, watched_at, among, AreShort, AreMet, AreHeld, AreForced, IsReason, IsPlain, HasTrue}
-use Rattle.watch_lists.specs.Visits.{AreWatching, AreSameCopies, IsGrown, AreTrue, AreBrief, RanIs, IsRun, IsStopped, IsDenied, MetIs}
+use Rattle.watch_lists.specs.Trails.{IsSettled, IsTrail}
+use Rattle.watch_lists.specs.Scans.{IsTrailOf, ToldIs}
+use Rattle.watch_lists.specs.Watching.{copy, lists_of, among, AreShort, AreHeld, AreForced, IsReason, IsPlain}
+use Rattle.watch_lists.specs.Visits.{AreWatching, AreSameCopies, IsGrown, AreTrue, AreBrief, RanIs}
 use Rattle.watch_lists.specs.Watches.{Holds, Fits}
 use Rattle.watch_lists.proofs.Lists.{get_take, has_longer}
 use Rattle.watch_lists.proofs.TrailLemmas.{least_push}

@@ -1,5 +1,5 @@
 -- Adding a clause to the watches.
-use Rattle.std.specs.Prelude.{◌≡◌, ℕ, ◌+◌, Bool, not, ◌&&◌, eqb, List, [], ◌∷◌, ◌++◌, length, slice_set}
+use Rattle.std.specs.Prelude.{ℕ, not, ◌&&◌, eqb, List, [], ◌∷◌, ◌++◌, slice_set}
 use Rattle.std.specs.List.{filter}
 use Rattle.lemma_checker.specs.declared.literal.Literal.{Literal}
 use Rattle.watch_lists.specs.declared.watch.Watch.{Watch}

@@ -1,7 +1,7 @@
 -- The way along the list of a literal that became false.
-use Rattle.std.specs.Prelude.{◌≡◌, ◌≢◌, ℕ, ◌+◌, ◌-◌, ◌<◌, ◌≤◌, ◌⊎◌, Bool, true, false, not, List, length, take, drop, count_by, Option, Some, None, slice_get}
+use Rattle.std.specs.Prelude.{◌≡◌, ℕ, ◌+◌, ◌-◌, ◌<◌, ◌≤◌, ◌⊎◌, true, not, List, length, take, drop, count_by, Option, Some, None, slice_get}
 use Rattle.lemma_checker.specs.declared.literal.Literal.{Literal}
-use Rattle.lemma_checker.specs.Clauses.{opposite, has, set_of}
+use Rattle.lemma_checker.specs.Clauses.{opposite, set_of}
 use Rattle.watch_lists.specs.declared.watch.Watch.{Watch}
 use Rattle.watch_lists.specs.declared.visit.Step.{Step}
 use Rattle.watch_lists.specs.declared.visit.Step.TheVariants as step

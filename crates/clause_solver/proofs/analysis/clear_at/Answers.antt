@@ -1,8 +1,7 @@
-use Rattle.std.proofs.Common.{sym, ap, refl, ◌∙◌, ◌≡◌, ◌<◌, ◌≢◌, ℕ, true, true≢false, length, Err, Some, slice_get, arith}
+use Rattle.std.proofs.Common.{sym, ap, refl, ◌∙◌, ◌≡◌, ◌<◌, true, true≢false, length, Err, arith}
 use Rattle.std.specs.Option.{option_copied}
 use Rattle.std.proofs.lemmas.Option.{slice_get_read}
 use Rattle.lemma_checker.specs.Clauses.{at, opposite}
-use Rattle.watch_lists.specs.Trails.{HasStart}
 use Rattle.clause_solver.proofs.WalkLemmas.{clear_skip, clear_clash, clear_step}
 use Rattle.clause_solver.proofs.analysis.clear_at.Goals as goal
 
@@ -16,9 +15,9 @@ pub unreachable-requires-in-Err-BadStep : goal.unreachable-requires-in-Err-BadSt
 unreachable-requires-in-Err-BadStep c =
     let x_is = slice_get_read c.args.trail.now.literals.items (length c.args.trail.now.literals.items) c.args.p c.index-literal.result.now refl c.requires.within c.index-literal.ensures in
     let lt : c.args.p < length c.args.trail.now.reasons.items = omega (arith, c.requires.within, c.requires.trail.lengths) in
-    let id_is = slice_get_read c.args.trail.now.reasons.items (length c.args.trail.now.reasons.items) c.args.p c.index-id.result.now refl lt c.index-id.ensures in
+    let id_is = slice_get_read c.args.trail.now.reasons.items (length c.args.trail.now.reasons.items) c.args.p c.index-reason.result.now refl lt c.index-reason.ensures in
     let at_c = sym c.clause_at.ensures ∙ ap option_copied c.in-Some.is in
-    let others = c.requires.trail.given c.args.p c.index-id.result.now c.index-literal.result.now c.in-Some.clause.now x_is id_is at_c in
+    let others = c.requires.trail.given c.args.p c.index-reason.result.now c.index-literal.result.now c.in-Some.clause.now x_is id_is at_c in
     let marked : at c.args.seen.now (opposite c.index-literal.result.now.0) ≡ true = ap (at c.args.seen.now) (sym c.opposite.ensures) ∙ (sym c.is_marked.ensures ∙ c.if-not-is_marked.false) in
     let clash = clear_clash c.args.trail.now.literals.items c.args.p c.args.seen.now c.index-literal.result.now c.in-Some.clause.now c.requires.trail.apart c.requires.trail.once c.requires.inside x_is marked others in
     true≢false (sym clash ∙ (rw c.variable-pivot.ensures at (c.in-Err-BadStep.ensures.bad (ap Err c.in-Err-BadStep.field-0-is))))
@@ -27,10 +26,10 @@ pub returns-in-Ok : goal.returns-in-Ok
 returns-in-Ok c = λ bottom first before w.
     let x_is = slice_get_read c.args.trail.now.literals.items (length c.args.trail.now.literals.items) c.args.p c.index-literal.result.now refl c.requires.within c.index-literal.ensures in
     let lt : c.args.p < length c.args.trail.now.reasons.items = omega (arith, c.requires.within, c.requires.trail.lengths) in
-    let id_is = slice_get_read c.args.trail.now.reasons.items (length c.args.trail.now.reasons.items) c.args.p c.index-id.result.now refl lt c.index-id.ensures in
+    let id_is = slice_get_read c.args.trail.now.reasons.items (length c.args.trail.now.reasons.items) c.args.p c.index-reason.result.now refl lt c.index-reason.ensures in
     let at_c = sym c.clause_at.ensures ∙ ap option_copied c.in-Some.is in
-    let others = c.requires.trail.given c.args.p c.index-id.result.now c.index-literal.result.now c.in-Some.clause.now x_is id_is at_c in
+    let others = c.requires.trail.given c.args.p c.index-reason.result.now c.index-literal.result.now c.in-Some.clause.now x_is id_is at_c in
     let marked : at c.args.seen.now (opposite c.index-literal.result.now.0) ≡ true = ap (at c.args.seen.now) (sym c.opposite.ensures) ∙ (sym c.is_marked.ensures ∙ c.if-not-is_marked.false) in
     let clash = clear_clash c.args.trail.now.literals.items c.args.p c.args.seen.now c.index-literal.result.now c.in-Some.clause.now c.requires.trail.apart c.requires.trail.once c.requires.inside x_is marked others in
     rw (c.in_ok-push.ensures.items, c.in_ok-push-2.ensures.items, c.variable-pivot.ensures)
-    (clear_step _ _ _ _ _ _ _ _ _ _ _ _ c.index-literal.result.now c.index-id.result.now c.in-Some.clause.now c.requires.trail.apart before w x_is at_c clash others c.resolve.auto.marks c.resolve.ensures.lists (rw c.variable-pivot.ensures at c.in-Ok.ensures.set))
+    (clear_step _ _ _ _ _ _ _ _ _ _ _ _ c.index-literal.result.now c.index-reason.result.now c.in-Some.clause.now c.requires.trail.apart before w x_is at_c clash others c.resolve.auto.marks c.resolve.ensures.lists (rw c.variable-pivot.ensures at c.in-Ok.ensures.set))

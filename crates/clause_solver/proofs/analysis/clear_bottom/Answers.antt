@@ -1,10 +1,10 @@
-use Rattle.std.proofs.Common.{arith, sym, ap, refl, ◌∙◌, ◌≡◌, ◌<◌, ◌≤◌, ◌-◌, ◌++◌, ℕ, List, ◌+◌, length, get_or, slice_get, Some, subst, inl, inr}
+use Rattle.std.proofs.Common.{arith, ap, refl, ◌∙◌, ◌≡◌, ◌<◌, ◌-◌, ◌++◌, ℕ, List, ◌+◌, length, get_or, slice_get, Some, subst, inl, inr}
 use Rattle.std.proofs.lemmas.Bool.{cases_lt}
 use Rattle.std.proofs.lemmas.Option.{slice_get_read, slice_get_within, slice_get-get_or}
 use Rattle.lemma_checker.specs.declared.literal.Literal.{Literal}
 use Rattle.lemma_checker.specs.Clauses.{at, opposite}
-use Rattle.clause_solver.specs.Walks.{IsStop, IsClearing, AreRising}
-use Rattle.clause_solver.proofs.WalkLemmas.{bottom_first, clear_start, cleared, stop_second, stop_alone}
+use Rattle.clause_solver.specs.Walks.{IsClearing, AreRising}
+use Rattle.clause_solver.proofs.WalkLemmas.{clear_start, cleared, stop_second, stop_alone}
 use Rattle.clause_solver.proofs.analysis.clear_bottom.Goals as goal
 
 pub loop-p-init : goal.loop-p-init

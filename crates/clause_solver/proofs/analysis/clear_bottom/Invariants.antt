@@ -1,4 +1,4 @@
-use Rattle.std.proofs.Common.{◌≤◌, ◌++◌, length, get_or}
+use Rattle.std.proofs.Common.{◌≤◌, ◌++◌, length}
 use Rattle.lemma_checker.specs.Clauses.{at}
 use Rattle.clause_solver.specs.Walks.{IsClearing}
 use Rattle.clause_solver.proofs.analysis.clear_bottom.Given as goal

@@ -1,4 +1,4 @@
-use Rattle.std.proofs.Common.{◌∙◌, ap, sym, subst, length, length-set, true, Ok, ◌≡◌, List, ℕ}
+use Rattle.std.proofs.Common.{◌∙◌, ap, subst, length, length-set, true, Ok, ◌≡◌, List, ℕ}
 use Rattle.lemma_checker.specs.declared.literal.Literal.{Literal}
 use Rattle.watch_lists.specs.Scans.{IsTrailOf}
 use Rattle.watch_lists.specs.Watches.{Holds}

@@ -1,9 +1,7 @@
-use Rattle.std.proofs.Common.{arith, refl, sym, ap, ◌∙◌, ◌≡◌, ◌<◌, ◌*◌, ◌+◌, ℕ, List, length}
+use Rattle.std.proofs.Common.{arith, refl, sym, ◌∙◌}
 use Rattle.std.proofs.lemmas.List.{length-map}
-use Rattle.lemma_checker.specs.declared.literal.Literal.{Literal}
 use Rattle.lemma_checker.specs.Checker.{link}
-use Rattle.watch_lists.specs.Scans.{IsTrailOf}
-use Rattle.clause_solver.specs.Solver.{all_of, IsReady}
+use Rattle.clause_solver.specs.Solver.{all_of}
 use Rattle.clause_solver.proofs.SolverLemmas.{settled_quiet, new_proper}
 use Rattle.clause_solver.proofs.FewLemmas.{few_new}
 use Rattle.clause_solver.proofs.solver.conclude.Goals as goal

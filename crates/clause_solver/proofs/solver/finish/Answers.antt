@@ -68,14 +68,14 @@ returns-in_ok-watch_last-in-Some-clause-turn c =
     let joined : Holds c.watch_last.new.watches vars (c.args.lemmas.now.formula.clauses ++ (c.args.lemmas.now.added ++ more.clause ∷ [])) = subst (Holds c.watch_last.new.watches vars) (append_assoc c.args.lemmas.now.formula.clauses c.args.lemmas.now.added (more.clause ∷ [])) held in
     record {
       ready = record {
-      state = record {
-        of = rw (long, c.in_ok-push-in-Some.ensures.literals, c.in_ok-push-in-Some.ensures.reasons, c.in_ok-push-in-Some.ensures.values, c.push.ensures.starts, c.cut.ensures.literals, c.cut.ensures.reasons, c.cut.ensures.starts, c.try_chain.ensures.clauses, more.added)
-            (finish_trail _ _ _ _ _ _ _ _ _ _ _ c.in-Some.stop.literal c.in-Some.stop.second c.in-Ok.id more.clause c.requires.ready.state.of stop place_is same (omega (arith, range.1, c.requires.ready.state.size, c.try_chain.ensures.vars)) range.0 (omega (arith, more.counted, count, one)) c.cut.ensures.size c.cut.ensures.values);
-        size = long ∙ (c.requires.ready.state.size ∙ ap (λ (v : ℕ). 2 * v + 2) (sym c.try_chain.ensures.vars));
-        news = rw (c.try_chain.ensures.clauses, more.added) (news_push _ _ more.clause c.requires.ready.state.news (stop_new _ _ _ _ _ _ _ _ _ _ more.clause c.requires.ready.state.of stop same));
-      };
-      holds = rw (c.try_chain.ensures.vars, c.try_chain.ensures.clauses, more.added) joined;
-      fits = c.in_ok-watch_last-in-Some.ensures.fits c.push.new.self more.clause last_is back guarded;
+        state = record {
+          of = rw (long, c.in_ok-push-in-Some.ensures.literals, c.in_ok-push-in-Some.ensures.reasons, c.in_ok-push-in-Some.ensures.values, c.push.ensures.starts, c.cut.ensures.literals, c.cut.ensures.reasons, c.cut.ensures.starts, c.try_chain.ensures.clauses, more.added)
+              (finish_trail _ _ _ _ _ _ _ _ _ _ _ c.in-Some.stop.literal c.in-Some.stop.second c.in-Ok.id more.clause c.requires.ready.state.of stop place_is same (omega (arith, range.1, c.requires.ready.state.size, c.try_chain.ensures.vars)) range.0 (omega (arith, more.counted, count, one)) c.cut.ensures.size c.cut.ensures.values);
+          size = long ∙ (c.requires.ready.state.size ∙ ap (λ (v : ℕ). 2 * v + 2) (sym c.try_chain.ensures.vars));
+          news = rw (c.try_chain.ensures.clauses, more.added) (news_push _ _ more.clause c.requires.ready.state.news (stop_new _ _ _ _ _ _ _ _ _ _ more.clause c.requires.ready.state.of stop same));
+        };
+        holds = rw (c.try_chain.ensures.vars, c.try_chain.ensures.clauses, more.added) joined;
+        fits = c.in_ok-watch_last-in-Some.ensures.fits c.push.new.self more.clause last_is back guarded;
       };
       more = one;
       started = omega (arith, within);

@@ -1,7 +1,7 @@
 use Rattle.std.proofs.Common.{ap, ◌∙◌, ◌+◌, ℕ, arith}
 use Rattle.clause_solver.proofs.AnswerLemmas.{solved_same}
 use Rattle.clause_solver.proofs.solver.rounds.Goals as goal
-use Rattle.clause_solver.proofs.solver.rounds.Goals.{then-restarts, else-restarts}
+use Rattle.clause_solver.proofs.solver.rounds.Goals.{then-restarts+in_ok-release-in-Learned, else-restarts}
 
 pub loop-turn-preserved : goal.loop-turn-preserved
 loop-turn-preserved c =
@@ -9,7 +9,7 @@ loop-turn-preserved c =
     let grown = rw c.in-Learned.is at c.in_ok-take_turn.ensures.turn in
     record {
       ready = elim c.if-restarts.branch [
-        | then-restarts w ↦ rw w.trail-is (record {
+        | then-restarts+in_ok-release-in-Learned w ↦ rw w.trail-is (record {
           state = record {
             of = w.to_bottom.ensures.trail _ grown.ready.state.of;
             size = w.to_bottom.ensures.size ∙ grown.ready.state.size;

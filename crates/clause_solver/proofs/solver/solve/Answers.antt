@@ -1,7 +1,6 @@
-use Rattle.std.proofs.Common.{sym, ap, refl, subst, ◌≡◌, ◌∙◌, ◌*◌, ◌+◌, ◌++◌, [], ℕ, List, length, false}
+use Rattle.std.proofs.Common.{sym, ap, refl, subst, ◌≡◌, ◌∙◌, ◌*◌, ◌+◌, ◌++◌, [], ℕ, length, false}
 use Rattle.std.proofs.lemmas.List.{length-replicate, append-nil}
-use Rattle.lemma_checker.specs.declared.literal.Literal.{Literal}
-use Rattle.watch_lists.specs.Watches.{Holds, Fits}
+use Rattle.watch_lists.specs.Watches.{Holds}
 use Rattle.watch_lists.proofs.StartLemmas.{trail_start, start_fits}
 use Rattle.clause_solver.specs.Solver.{SolvedIs}
 use Rattle.clause_solver.proofs.SolverLemmas.{none_new}

@@ -1,4 +1,4 @@
-use Rattle.std.proofs.Common.{arith, get_or, length}
+use Rattle.std.proofs.Common.{arith, get_or}
 use Rattle.std.proofs.lemmas.Option.{slice_get-get_or}
 use Rattle.watch_lists.proofs.BuildLemmas.{pair_of}
 use Rattle.watch_lists.proofs.build.first_two.Goals as goal

@@ -1,6 +1,5 @@
-use Rattle.std.proofs.Common.{◌≡◌, ◌+◌, ◌*◌, ◌++◌, [], ap, ◌∙◌, sym, length, false, arith}
+use Rattle.std.proofs.Common.{◌≡◌, ◌+◌, ◌*◌, ap, ◌∙◌, length, false, arith}
 use Rattle.std.proofs.lemmas.List.{append-nil, length-replicate}
-use Rattle.watch_lists.specs.Scans.{AreWithin}
 use Rattle.watch_lists.proofs.StartLemmas.{trail_start, start_fits}
 use Rattle.watch_lists.proofs.tests.same.Goals as goal
 

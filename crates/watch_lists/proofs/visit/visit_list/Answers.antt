@@ -1,4 +1,4 @@
-use Rattle.std.proofs.Common.{◌≤◌, length, arith, sym, refl, ◌∙◌}
+use Rattle.std.proofs.Common.{◌≤◌, length, arith, refl, ◌∙◌}
 use Rattle.watch_lists.specs.Watching.{lists_of, list_at}
 use Rattle.watch_lists.proofs.VisitLemmas.{grown_more, grown_none, same_copies, stopped_more, through}
 use Rattle.watch_lists.proofs.visit.visit_list.Goals as goal

@@ -1,8 +1,7 @@
-use Rattle.std.proofs.Common.{◌≡◌, ◌+◌, ℕ, ◌<◌, length, Bool, List, refl, sym, ap, ◌∙◌, arith, subst}
+use Rattle.std.proofs.Common.{◌<◌, length, refl, sym, ap, ◌∙◌, arith}
 use Rattle.lemma_checker.specs.Clauses.{at}
-use Rattle.watch_lists.specs.Watching.{lists_of, list_at, copy}
+use Rattle.watch_lists.specs.Watching.{lists_of, copy}
 use Rattle.watch_lists.specs.Looks.{IsMet, IsMoved, IsLast, IsLost}
-use Rattle.watch_lists.specs.Visits.{AreSameCopies}
 use Rattle.watch_lists.proofs.VisitLemmas.{IsLooked, ahead_blocked, ahead_away, ahead_met, ahead_moved, ahead_forced, grown_none, grown_forced, stopped, same_copies, copies_next, denied_now, moved_apart, listed_below}
 use Rattle.watch_lists.proofs.WatchLists.{length_lists}
 use Rattle.watch_lists.proofs.visit.visit_watch.Goals as goal

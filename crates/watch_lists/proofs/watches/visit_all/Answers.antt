@@ -1,8 +1,8 @@
-use Rattle.std.proofs.Common.{◌≡◌, ◌+◌, ◌<◌, length, arith, sym, ap, ◌∙◌, refl}
+use Rattle.std.proofs.Common.{◌≡◌, ◌+◌, ◌<◌, length, arith, ap, ◌∙◌, refl}
 use Rattle.std.proofs.lemmas.List.{get_or_read}
 use Rattle.lemma_checker.specs.declared.literal.Literal.{Literal}
 use Rattle.lemma_checker.specs.Clauses.{opposite}
-use Rattle.watch_lists.specs.Watching.{lists_of, list_at, literal_at}
+use Rattle.watch_lists.specs.Watching.{lists_of, literal_at}
 use Rattle.watch_lists.proofs.WatchLists.{length_lists}
 use Rattle.watch_lists.proofs.VisitLemmas.{grown_more, grown_none, same_copies, stopped_more, next_below, next_done}
 use Rattle.watch_lists.proofs.watches.visit_all.Goals as goal
@@ -18,7 +18,7 @@ pub returns-in-Some-clause-grown : goal.returns-in-Some-clause-grown
 returns-in-Some-clause-grown c = grown_more c.args.starts.now c.args.literals.now c.loop-trail.literals c.visit_list.new.literals c.args.trail.now c.loop-trail.trail c.visit_list.new.trail c.loop-trail.invariant.watching.plain.lengths c.loop-trail.invariant.grown c.in_ok-number.ensures.grown
 
 pub returns-in-Some-clause-ran : goal.returns-in-Some-clause-ran
-returns-in-Some-clause-ran c = 
+returns-in-Some-clause-ran c =
     let stop = rw c.in-Some.is at c.in_ok-number.ensures.passed in
     stopped_more c.args.starts.now c.args.literals.now c.loop-trail.literals c.visit_list.new.literals (lists_of c.visit_list.new.lists) c.args.trail.now c.loop-trail.trail c.visit_list.new.trail c.in-Some.number c.loop-trail.invariant.grown stop
 

@@ -1,11 +1,11 @@
-use Rattle.std.proofs.Common.{◌≡◌, ◌+◌, ◌<◌, ◌++◌, ◌∷◌, [], take, ℕ, Bool, length, get_or, arith, sym, ap, ◌∙◌, refl, subst}
+use Rattle.std.proofs.Common.{◌<◌, ◌++◌, ◌∷◌, [], take, ℕ, length, get_or, arith, ◌∙◌, refl, subst}
 use Rattle.std.proofs.lemmas.Option.{slice_get-get_or}
 use Rattle.lemma_checker.specs.Clauses.{at, set_of}
 use Rattle.lemma_checker.specs.Propagation.{IsFalse}
 use Rattle.lemma_checker.proofs.CollectLemmas.{has_push_new}
 use Rattle.watch_lists.specs.Trails.{IsQuiet}
 use Rattle.watch_lists.specs.Scans.{IsForced}
-use Rattle.watch_lists.specs.Watching.{copy, lists_of, list_at, literal_at}
+use Rattle.watch_lists.specs.Watching.{copy, lists_of}
 use Rattle.watch_lists.proofs.GuardLemmas.{conflict_of}
 use Rattle.watch_lists.proofs.VisitLemmas.{grown_more, grown_none, true_none, grown_push, watching_push, same_copies, short_true, true_more, true_grows}
 use Rattle.watch_lists.proofs.watches.visit_short.Goals as goal

@@ -1,13 +1,13 @@
-use Rattle.std.proofs.Common.{◌≡◌, ◌+◌, ◌-◌, ◌<◌, ◌≤◌, ◌^◌, ◌++◌, ◌∷◌, [], ℕ, List, length, take, drop, sym, ap, ◌∙◌, subst, arith, refl, true}
+use Rattle.std.proofs.Common.{◌≡◌, ◌+◌, ◌-◌, ◌<◌, ◌≤◌, ◌^◌, ◌++◌, ◌∷◌, [], ℕ, List, length, take, ap, ◌∙◌, arith, refl}
 use Rattle.std.proofs.Math.Path.{fun_ext}
 use Rattle.std.specs.Vec.{with_items}
 use Rattle.std.proofs.lemmas.List.{take-append-le, with_items_is, length_push}
 use Rattle.lemma_checker.specs.declared.literal.Literal.{Literal}
-use Rattle.lemma_checker.specs.Clauses.{set_of, has}
+use Rattle.lemma_checker.specs.Clauses.{set_of}
 use Rattle.watch_lists.specs.declared.watches.Watches.{Watches}
 use Rattle.watch_lists.specs.Watching.{lists_of, AreWatches, AreShort}
 use Rattle.watch_lists.specs.Building.{with_first, with_both}
-use Rattle.watch_lists.specs.Watches.{AreSound, Holds, Fits, IsOf, ArePair, ArePairGuarded}
+use Rattle.watch_lists.specs.Watches.{AreSound, ArePair}
 use Rattle.watch_lists.proofs.WatchLists.{length_lists}
 use Rattle.watch_lists.proofs.BuildLemmas.{IsAdded, IsLonger, longer, watches_short, watches_long, short_more, short_same, added_holds, added_fits, pair_guarded, with_first_has}
 use Rattle.watch_lists.proofs.watches.Watches.add.Goals as goal
@@ -137,4 +137,3 @@ returns-in_ok-add_long-clause-fits c =
     let same : set_of d ≡ set_of c.args.clause.now = fun_ext (with_first_has c.args.clause.now c.args.first c.args.second pair.first_in pair.second_in) in
     let added : IsAdded w v n c.args.clause.now d = record { longer = g; same = same; sound = sound; size = ap length at_lists ∙ (c.add_long.auto.lists ∙ ap length c.as_mut_slice.ensures.value); looked = refl; front = refl } in
     λ t f guarded. added_fits w v n c.args.clause.now d t added f (λ x two_d h. pair_guarded c.args.clause.now c.args.first c.args.second t x (guarded two) h)
-

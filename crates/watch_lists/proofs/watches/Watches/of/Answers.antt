@@ -1,4 +1,4 @@
-use Rattle.std.proofs.Common.{◌≡◌, ◌<◌, length, arith, take}
+use Rattle.std.proofs.Common.{arith, take}
 use Rattle.lemma_checker.specs.Clauses.{IsOver}
 use Rattle.watch_lists.proofs.BuildLemmas.{take_clause}
 use Rattle.watch_lists.proofs.watches.Watches.of.Goals as goal

@@ -1,12 +1,11 @@
-use Rattle.std.proofs.Common.{◌≡◌, ◌⊎◌, ◌<◌, ℕ, List, Some, None, length, take, drop, sym, ap, ◌∙◌, subst, arith, inl, inr, refl}
+use Rattle.std.proofs.Common.{◌≡◌, ◌⊎◌, ◌<◌, ℕ, List, length, drop, sym, ap, ◌∙◌, arith, inl, inr, refl}
 use Rattle.std.proofs.lemmas.List.{take_rest, with_items_is}
 use Rattle.lemma_checker.specs.declared.literal.Literal.{Literal}
-use Rattle.lemma_checker.specs.Clauses.{set_of}
-use Rattle.watch_lists.specs.Watching.{lists_of, AreForced, AreHeld}
-use Rattle.watch_lists.specs.Visits.{AreWatching, IsGrown, RanIs, AreTrue, MetIs}
+use Rattle.watch_lists.specs.Watching.{lists_of}
+use Rattle.watch_lists.specs.Visits.{AreWatching, IsGrown, RanIs, AreTrue}
 use Rattle.std.specs.Vec.{with_items}
 use Rattle.watch_lists.specs.declared.watches.Watches.{Watches}
-use Rattle.watch_lists.specs.Watches.{Holds, Fits}
+use Rattle.watch_lists.specs.Watches.{Fits}
 use Rattle.watch_lists.proofs.VisitLemmas.{grown_more}
 use Rattle.watch_lists.proofs.WatchLists.{length_lists}
 use Rattle.watch_lists.proofs.WatchesLemmas.{grown_fewer, fits_short, fits_next, holds_next, brief_from, trail_next, least_forced, short_all, told_of, watching_of, short_next, true_next}
