@@ -4,3 +4,12 @@ mod JointLemmas
 pub mod JointLaws
 pub mod JointRuns
 mod TraceLemmas
+mod DigitLemmas
+mod FieldLemmas
+mod LineLemmas
+mod FormLemmas
+mod ReadLemmas
+mod AllowedLemmas
+mod RunLemmas
+mod TraceTheorem
+mod CutLemmas

@@ -3,5 +3,12 @@ pub mod Blocks
 pub mod States
 pub mod Joint
 pub mod Runs
+pub mod Inputs
 pub mod Trace
 pub mod TraceText
+pub mod LegalTrace
+pub mod Lines
+pub mod Allowed
+pub mod Reading
+pub mod Steps
+pub mod Laws

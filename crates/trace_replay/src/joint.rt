@@ -81,6 +81,13 @@ impl JointState {
         self.edge < RESET_EDGES
     }
 
+    /// The phase of the bus before the next edge.
+    pub fn phase(&self) -> Phase
+        ensures { result ≡ self.now.phase }
+    {
+        self.phase
+    }
+
     /// The wires that the master drives for this choice.
     pub fn wires(&self, choice: Choice) -> BusWires
         ensures { result ≡ wires_of self.now choice }

@@ -4,9 +4,19 @@
 
 pub mod block;
 pub mod expression;
+pub mod fault;
+mod fields;
+mod form;
+pub mod input;
 pub mod joint;
+pub mod laws;
+mod lines;
 pub mod map;
 pub mod pins;
+pub mod read;
+pub mod replay;
 pub mod runs;
+#[cfg(test)]
+mod tests;
 pub mod text;
 pub mod trace;

@@ -1,9 +1,12 @@
 //! The text of a trace.
 
-ghost use Rattle.std.specs.Prelude.{◌≡◌, ◌++◌, length, IfOk, OnOk};
-ghost use Rattle.trace_replay.specs.TraceText.{digits, field_text, edge_text, edges_text, trace_text};
+ghost use Rattle.std.specs.Prelude.{◌≡◌, ◌++◌, ◌∷◌, [], length, IfOk, OnOk};
+ghost use Rattle.trace_replay.specs.TraceText.{digits, field_text, edge_line, trace_text};
 ghost use Rattle.trace_replay.specs.Trace.{HasAllInputs, lists_of};
+ghost use Rattle.trace_replay.specs.LegalTrace.{IsLegalTrace};
 
+use crate::block::Block;
+use crate::input::{INPUT_BITS, INPUTS};
 use crate::trace::Trace;
 use std::alloc::{AllocError, Global};
 use std::vec::Vec;
@@ -18,7 +21,7 @@ fn digits(alloc: Global, bits: &[bool]) -> Result<Vec<u8>, AllocError>
         .collect(alloc)
 }
 
-/// Appends a blank, a name and the digits of its bits.
+/// Appends a name and the digits of its bits.
 fn push_field(
     alloc: Global,
     text: &mut Vec<u8>,
@@ -33,19 +36,28 @@ fn push_field(
     Ok(())
 }
 
-/// The line of an edge.
+/// Appends a line and its line feed.
+fn push_line(text: &mut Vec<u8>, line: &[u8]) -> Result<(), AllocError>
+    ensures { OnOk result (text.new.items ≡ text.old.items ++ (line.now ++ (10 ∷ []))) }
+{
+    text.extend_from_slice(line)?;
+    text.push(b'\n')?;
+    Ok(())
+}
+
+/// The line of an edge, without its line feed.
 fn edge_line(alloc: Global, bits: &[bool]) -> Result<Vec<u8>, AllocError>
-    requires { length bits.now ≡ 14 }
-    ensures { IfOk result (λ line. line.items ≡ edge_text bits.now) }
+    requires { length bits.now ≡ INPUT_BITS }
+    ensures { IfOk result (λ line. line.items ≡ edge_line bits.now) }
 {
     let mut line = Vec::new(alloc);
-    push_field(alloc, &mut line, b"edge rst_n=".as_slice(), &bits[..1])?;
-    push_field(alloc, &mut line, b" psel=".as_slice(), &bits[1..2])?;
-    push_field(alloc, &mut line, b" penable=".as_slice(), &bits[2..3])?;
-    push_field(alloc, &mut line, b" pwrite=".as_slice(), &bits[3..4])?;
-    push_field(alloc, &mut line, b" paddr=".as_slice(), &bits[4..6])?;
-    push_field(alloc, &mut line, b" pwdata=".as_slice(), &bits[6..14])?;
-    line.push(b'\n')?;
+    line.extend_from_slice(b"edge".as_slice())?;
+    let mut rest = bits;
+    for input in INPUTS {
+        let (front, back) = rest.split_at(input.width());
+        push_field(alloc, &mut line, input.label(), front)?;
+        rest = back;
+    }
     Ok(line)
 }
 
@@ -60,8 +72,16 @@ pub fn trace_text(alloc: Global, trace: &Trace) -> Result<Vec<u8>, AllocError>
     text.push(b'\n')?;
     for edge in &trace.edges {
         let line = edge_line(alloc, edge)?;
-        text.extend_from_slice(&line)?;
+        push_line(&mut text, &line)?;
     }
-    text.extend_from_slice(b"end\n".as_slice())?;
+    push_line(&mut text, b"end".as_slice())?;
     Ok(text)
+}
+
+/// The text of a trace that is legal for the block.
+pub fn write_trace(alloc: Global, block: &Block, trace: &Trace) -> Result<Vec<u8>, AllocError>
+    requires { IsLegalTrace block.now trace.now.start.items (lists_of trace.now.edges.items) }
+    ensures { IfOk result (λ text. text.items ≡ trace_text trace.now.start.items (lists_of trace.now.edges.items)) }
+{
+    trace_text(alloc, trace)
 }

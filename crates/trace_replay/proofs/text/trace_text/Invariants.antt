@@ -1,10 +1,10 @@
-use Rattle.std.proofs.Common.{◌≡◌, ◌++◌, ◌∷◌, [], take, codes}
+use Rattle.std.proofs.Common.{◌≡◌, ◌++◌, ◌∷◌, [], drop, map}
 use Rattle.trace_replay.specs.Trace.{lists_of}
-use Rattle.trace_replay.specs.TraceText.{field_text, edges_text}
+use Rattle.trace_replay.specs.TraceText.{edge_line, end_line, text_of_lines, trace_text}
 use Rattle.trace_replay.proofs.text.trace_text.Given as goal
 
--- the lines of the edges before this one
+-- the lines so far, and then those of the other edges and the last one, are the text
 abbrev pub invariant-loop-edge : goal.invariant-loop-edge
 invariant-loop-edge l =
-    l.text.items ≡ codes "rdltrace 1" ++ 10 ∷ [] ++ field_text (codes "start v ") l.trace.start.items ++ 10 ∷ []
-    ++ edges_text (lists_of (take l.edge-index l.trace.edges.items))
+    l.text.items ++ text_of_lines (map edge_line (lists_of (drop l.edge-index l.trace.edges.items)) ++ end_line ∷ [])
+    ≡ trace_text l.trace.start.items (lists_of l.trace.edges.items)

@@ -1,0 +1,9 @@
+//! Laws of traces, as functions that do nothing: each one's contract is the law.
+
+ghost use Rattle.trace_replay.specs.Laws.{CutAtFirst};
+
+/// A legal trace that is cut after the edge of its first difference has that difference at its last
+/// edge.
+pub fn cut_at_first()
+    ensures { CutAtFirst }
+{}
