@@ -141,7 +141,8 @@ pub fn read_trace(alloc: Global, bytes: &[u8], block: &Block) -> Result<Trace, T
         });
     }
     let trace = read_lines(alloc, bytes)?;
-    match first_forbidden(alloc, block, &trace)? {
+    let forbidden = first_forbidden(alloc, block, &trace)?;
+    match forbidden {
         Some(edge) => Err(TraceFault::At {
             code: TraceCode::TraceIllegal,
             line: edge as u32 + 3,

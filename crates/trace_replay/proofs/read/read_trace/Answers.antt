@@ -31,8 +31,8 @@ returns-in-Some c =
     let result : Result Trace TraceFault = Err (At code.TraceIllegal (c.in-Some.edge + 3)) in
     let trace = c.in_ok-trace.trace in
     let truth : Truth block bytes (Err (At code.TraceIllegal (c.in-Some.edge + 3))) =
-    illegal-truth block bytes trace.start.items (lists_of trace.edges.items) c.in-Some.edge (c.in-Some.edge + 3) (omega arith) c.in_ok-trace.ensures.0
-    (lines-trace bytes trace.start.items (lists_of trace.edges.items) c.in_ok-trace.ensures.1) c.in-Some.ensures.allowed refl in
+    illegal-truth block bytes trace.start.items (lists_of trace.edges.items) c.in-Some.edge (c.in-Some.edge + 3) (omega (arith, c.if-bytes-gt-TRACE_LIMIT.false)) c.in_ok-trace.ensures.0
+    (lines-trace bytes trace.start.items (lists_of trace.edges.items) c.in_ok-trace.ensures.1) (rw c.in-Some.is at c.in_ok-forbidden.ensures.allowed) refl in
     record {
       accepts = accepts block bytes result truth;
       legal = legal_of block bytes result truth;
@@ -50,7 +50,7 @@ returns-in-None c =
     let trace = c.in_ok-trace.trace in
     let result : Result Trace TraceFault = Ok trace in
     let truth : Truth block bytes (Ok trace) =
-    (omega arith, record { sizes = c.in_ok-trace.ensures.0; allowed = c.in-None.ensures.allowed }, lines-trace bytes trace.start.items (lists_of trace.edges.items) c.in_ok-trace.ensures.1) in
+    (omega arith, record { sizes = c.in_ok-trace.ensures.0; allowed = rw c.in-None.is at c.in_ok-forbidden.ensures.allowed }, lines-trace bytes trace.start.items (lists_of trace.edges.items) c.in_ok-trace.ensures.1) in
     record {
       accepts = accepts block bytes result truth;
       legal = legal_of block bytes result truth;
