@@ -17,15 +17,17 @@ use Rattle.prove_top.specs.declared.report.Report.TheVariants.{Usage, Refused, R
 use Rattle.prove_top.specs.declared.report.Refusal.TheVariants.{NotYet}
 use Rattle.prove_top.specs.declared.report.Status.{Status}
 use Rattle.prove_top.specs.declared.report.Status.TheVariants as status
-use Rattle.prove_top.specs.declared.words.Command.{Command}
-use Rattle.prove_top.specs.Answer.{TellsFailed, names_asked, report_of, command_report, command_answer, files_report, short_report, answer_to, block_report, block_of, run_report, difference_report, wanted_of, name_of}
+use Rattle.prove_top.specs.declared.words.Proving.{Proving}
+use Rattle.prove_top.specs.Answer.{TellsFailed, names_asked, report_of, command_report, proving_report, command_answer, files_report, short_report, answer_to, block_report, block_of, run_report, difference_report, wanted_of, name_of}
 use Rattle.prove_top.specs.Clauses.{Added, WholeButTheLast, NoStores, IsFaultOrMemory, PutsPart, PutsFault, PutsPartThenMemory, asked_block, command_block, texts_block, with_block, SampledDiffers, SampledAgrees}
 use Rattle.prove_top.specs.Ends.{Ends, EndsPut, Completes, FailsPut, WantsMemory, MayReport, Ran, UnlessFailed}
 use Rattle.prove_top.specs.Gather.{gathered}
 use Rattle.prove_top.specs.Reads.{AreReads, GoesOn, ReadsOnly, failed_of}
 use Rattle.prove_top.specs.Report.{status_of, text_of}
 use Rattle.prove_top.specs.Sampled.{sampled}
-use Rattle.prove_top.specs.Words.{command_of}
+use Rattle.std.specs.Option.{option_and_then}
+use Rattle.prove_top.specs.declared.words.Command.{Command}
+use Rattle.prove_top.specs.Words.{command_of, proving_of, proving_asked}
 use Rattle.prove_top.proofs.EndLemmas.{put-part, part-whole, unless-map}
 
 module _ (names : List (List ℕ)) (before after : Option (List DepotCall)) (P : List DepotCall → Type 0) where
@@ -156,11 +158,11 @@ run-statuses : (block : Block) (seed : ℕ) → Statuses (run_report block seed)
 unfolding run_report
 run-statuses block seed = difference-statuses block seed (sampled block seed) refl
 
-block-statuses : (command : Command) (block : Result Block Kind) → Statuses (block_report command block) (with_block command.seed block)
+block-statuses : (command : Proving) (block : Result Block Kind) → Statuses (block_report command block) (with_block command.seed block)
 block-statuses command (Ok block) = run-statuses block command.seed
 block-statuses command (Err kind) = refused-statuses (Refused NotYet (name_of command kind)) refl
 
-answer-statuses : (command : Command) (rdl ports verilog : List ℕ) → Statuses (answer_to command rdl ports verilog) (with_block command.seed (block_of rdl ports verilog))
+answer-statuses : (command : Proving) (rdl ports verilog : List ℕ) → Statuses (answer_to command rdl ports verilog) (with_block command.seed (block_of rdl ports verilog))
 unfolding answer_to
 answer-statuses command rdl ports verilog = block-statuses command (block_of rdl ports verilog)
 
@@ -168,27 +170,37 @@ short-status : (short : Shortfall) → status_of (short_report short) ≡ status
 short-status (Missing name) = refl
 short-status (Long kind name) = refl
 
-files-statuses : (command : Command) (files : Result (List (List ℕ)) Shortfall) → Statuses (files_report command files) (texts_block command files)
+files-statuses : (command : Proving) (files : Result (List (List ℕ)) Shortfall) → Statuses (files_report command files) (texts_block command files)
 files-statuses command (Err short) = refused-statuses (short_report short) (short-status short)
 files-statuses command (Ok texts) = answer-statuses command _ _ _
 
-command-statuses : (files : Files) (command : Option Command) → Statuses (command_report files command) (command_block files command)
-command-statuses files None = refused-statuses (command_report files None) refl
-command-statuses files (Some command) = files-statuses command (gathered files (wanted_of command))
+proving-statuses : (files : Files) (proving : Option Proving) → Statuses (proving_report files proving) (command_block files proving)
+proving-statuses files None = refused-statuses (proving_report files None) refl
+proving-statuses files (Some proving) = files-statuses proving (gathered files (wanted_of proving))
+
+differs-command : (files : Files) (command : Option Command) → (status_of (command_report files command) ≡ status.No) ↔ IsSomeAnd (command_block files (option_and_then proving_of command)) (λ a. IsSome (sampled a.0 a.1))
+differs-command files None = (λ h. cc, λ h. absurd h)
+differs-command files (Some command) = (proving-statuses files (proving_of command)).0
+
+agrees-command : (files : Files) (command : Option Command) → (status_of (command_report files command) ≡ status.Unknown) ↔ IsSomeAnd (command_block files (option_and_then proving_of command)) (λ a. sampled a.0 a.1 ≡ None)
+agrees-command files None = (λ h. cc, λ h. absurd h)
+agrees-command files (Some command) = (proving-statuses files (proving_of command)).1
+
+refused-command : (files : Files) (command : Option Command) → (status_of (command_report files command) ≡ status.Refused)
+    ↔ ((command ≢ None) × (command_block files (option_and_then proving_of command) ≡ None))
+refused-command files None = (λ h. cc, λ h. absurd (h.0 refl))
+refused-command files (Some command) =
+    let third = (proving-statuses files (proving_of command)).2 in
+    (λ h. (λ is. cc, third.0 h), λ h. third.1 h.1)
 
 pub differs-status : (files : Files) (words : List (List ℕ)) → (status_of (report_of files words) ≡ status.No) ↔ SampledDiffers files words
-differs-status files [] = (λ h. cc, λ h. absurd h)
-differs-status files (word ∷ words) = (command-statuses files (command_of (word ∷ words))).0
+differs-status files words = differs-command files (command_of words)
 
 pub agrees-status : (files : Files) (words : List (List ℕ)) → (status_of (report_of files words) ≡ status.Unknown) ↔ SampledAgrees files words
-agrees-status files [] = (λ h. cc, λ h. absurd h)
-agrees-status files (word ∷ words) = (command-statuses files (command_of (word ∷ words))).1
+agrees-status files words = agrees-command files (command_of words)
 
-pub refused-status : (files : Files) (words : List (List ℕ)) → (status_of (report_of files words) ≡ status.Refused) ↔ ((words ≢ []) × (asked_block files words ≡ None))
-refused-status files [] = (λ h. cc, λ h. absurd (h.0 refl))
-refused-status files (word ∷ words) =
-    let third = (command-statuses files (command_of (word ∷ words))).2 in
-    (λ h. (λ is. cc, third.0 h), λ h. third.1 h.1)
+pub refused-status : (files : Files) (words : List (List ℕ)) → (status_of (report_of files words) ≡ status.Refused) ↔ ((command_of words ≢ None) × (asked_block files words ≡ None))
+refused-status files words = refused-command files (command_of words)
 
 pub status-iff : (told : Option Files) (ended due : Status) (words : List (List ℕ)) (F : Files → Type 0)
     → ((files : Files) → (status_of (report_of files words) ≡ due) ↔ F files)
@@ -205,42 +217,43 @@ texts-as : (ended : Status) (old new : Option (List ℕ)) (report due : Report) 
 texts-as ended old new report due is h =
     let P : Report → Type 0 = λ r. UnlessFailed ended (new ≡ after_put old (text_of r)) in subst P is h
 
-report-short : (files : Files) (words : List (List ℕ)) (command : Command) (short : Shortfall) → command_of words ≡ Some command
+asked-report : (files : Files) (command : Option Command) (proving : Proving) → option_and_then proving_of command ≡ Some proving → command_report files command ≡ command_answer files proving
+asked-report files None proving is = cc
+asked-report files (Some command) proving is = ap (proving_report files) is
+
+report-short : (files : Files) (words : List (List ℕ)) (command : Proving) (short : Shortfall) → proving_asked words ≡ Some command
     → gathered files (wanted_of command) ≡ Err short → report_of files words ≡ short_report short
-report-short files [] command short is lacks = cc
-report-short files (word ∷ words) command short is lacks = ap (command_report files) is ∙ ap (files_report command) lacks
+report-short files words command short is lacks = asked-report files (command_of words) command is ∙ ap (files_report command) lacks
 
 pub short-put : (told : Option Files) (ended : Status) (words : List (List ℕ)) (old new : Option (List ℕ))
     → IfSome told (λ files. UnlessFailed ended (new ≡ after_put old (text_of (report_of files words))))
-    → IfSome told (λ files. (command : Command) (short : Shortfall) → command_of words ≡ Some command → gathered files (wanted_of command) ≡ Err short
+    → IfSome told (λ files. (command : Proving) (short : Shortfall) → proving_asked words ≡ Some command → gathered files (wanted_of command) ≡ Err short
     → UnlessFailed ended (new ≡ after_put old (text_of (short_report short))))
 short-put None ended words old new h = h
 short-put (Some files) ended words old new h = λ command short is lacks. texts-as ended old new (report_of files words) (short_report short) (report-short files words command short is lacks) h
 
-report-words : (files : Files) (words : List (List ℕ)) → words ≢ [] → command_of words ≡ None → report_of files words ≡ Refused NotYet (codes "words")
-report-words files [] some is = absurd (some refl)
-report-words files (word ∷ words) some is = ap (command_report files) is
+report-words : (files : Files) (words : List (List ℕ)) (command : Command) → command_of words ≡ Some command → proving_of command ≡ None → report_of files words ≡ Refused NotYet (codes "words")
+report-words files words command is later = ap (command_report files) is ∙ ap (proving_report files) later
 
 pub words-put : (told : Option Files) (ended : Status) (words : List (List ℕ)) (old new : Option (List ℕ))
     → IfSome told (λ files. UnlessFailed ended (new ≡ after_put old (text_of (report_of files words))))
-    → IfSome told (λ files. words ≢ [] → command_of words ≡ None → UnlessFailed ended (new ≡ after_put old (text_of (Refused NotYet (codes "words")))))
+    → IfSome told (λ files. (command : Command) → command_of words ≡ Some command → proving_of command ≡ None → UnlessFailed ended (new ≡ after_put old (text_of (Refused NotYet (codes "words")))))
 words-put None ended words old new h = h
-words-put (Some files) ended words old new h = λ some is. texts-as ended old new (report_of files words) (Refused NotYet (codes "words")) (report-words files words some is) h
+words-put (Some files) ended words old new h = λ command is later. texts-as ended old new (report_of files words) (Refused NotYet (codes "words")) (report-words files words command is later) h
 
-answer-kind : (command : Command) (rdl ports verilog : List ℕ) (kind : Kind) → block_of rdl ports verilog ≡ Err kind → answer_to command rdl ports verilog ≡ Refused NotYet (name_of command kind)
+answer-kind : (command : Proving) (rdl ports verilog : List ℕ) (kind : Kind) → block_of rdl ports verilog ≡ Err kind → answer_to command rdl ports verilog ≡ Refused NotYet (name_of command kind)
 unfolding answer_to
 answer-kind command rdl ports verilog kind is = ap (block_report command) is
 
-report-form : (files : Files) (words : List (List ℕ)) (command : Command) (texts : List (List ℕ)) (kind : Kind) → command_of words ≡ Some command
+report-form : (files : Files) (words : List (List ℕ)) (command : Proving) (texts : List (List ℕ)) (kind : Kind) → proving_asked words ≡ Some command
     → gathered files (wanted_of command) ≡ Ok texts → block_of (slice_index_or texts 0 []) (slice_index_or texts 1 []) (slice_index_or texts 2 []) ≡ Err kind
     → report_of files words ≡ Refused NotYet (name_of command kind)
-report-form files [] command texts kind is whole form = cc
-report-form files (word ∷ words) command texts kind is whole form =
-    ap (command_report files) is ∙ ap (files_report command) whole ∙ answer-kind command _ _ _ kind form
+report-form files words command texts kind is whole form =
+    asked-report files (command_of words) command is ∙ ap (files_report command) whole ∙ answer-kind command _ _ _ kind form
 
 pub form-put : (told : Option Files) (ended : Status) (words : List (List ℕ)) (old new : Option (List ℕ))
     → IfSome told (λ files. UnlessFailed ended (new ≡ after_put old (text_of (report_of files words))))
-    → IfSome told (λ files. (command : Command) (texts : List (List ℕ)) (kind : Kind) → command_of words ≡ Some command → gathered files (wanted_of command) ≡ Ok texts
+    → IfSome told (λ files. (command : Proving) (texts : List (List ℕ)) (kind : Kind) → proving_asked words ≡ Some command → gathered files (wanted_of command) ≡ Ok texts
     → block_of (slice_index_or texts 0 []) (slice_index_or texts 1 []) (slice_index_or texts 2 []) ≡ Err kind
     → UnlessFailed ended (new ≡ after_put old (text_of (Refused NotYet (name_of command kind)))))
 form-put None ended words old new h = h

@@ -19,14 +19,15 @@ use Rattle.prove_top.specs.declared.report.Report.TheVariants.{Usage, Refused, R
 use Rattle.prove_top.specs.declared.report.Status.{Status}
 use Rattle.prove_top.specs.declared.report.Status.TheVariants as status
 use Rattle.prove_top.specs.declared.report.TheConstants.{MEMORY_LINE}
-use Rattle.prove_top.specs.declared.words.Command.{Command}
-use Rattle.prove_top.specs.Answer.{IsAnswer, UnlessFault, TellsFailed, names_asked, report_of, command_report, command_answer, files_report, short_report, answer_to, block_report, block_of, run_report, difference_report, wanted_of}
+use Rattle.prove_top.specs.declared.words.Proving.{Proving}
+use Rattle.prove_top.specs.Answer.{IsAnswer, UnlessFault, TellsFailed, names_asked, report_of, command_report, proving_report, command_answer, files_report, short_report, answer_to, block_report, block_of, run_report, difference_report, wanted_of}
 use Rattle.prove_top.specs.Ends.{Ends, EndsPut, Completes, FailsPut, WantsMemory, MayReport, Ran, UnlessFailed}
 use Rattle.prove_top.specs.Gather.{gathered}
 use Rattle.prove_top.specs.Reads.{ReadsOnly, failed_of}
 use Rattle.prove_top.specs.Report.{status_of, text_of}
 use Rattle.prove_top.specs.Sampled.{sampled}
-use Rattle.prove_top.specs.Words.{command_of}
+use Rattle.prove_top.specs.declared.words.Command.{Command}
+use Rattle.prove_top.specs.Words.{command_of, proving_of}
 
 -- whatever a put answers, a part of the bytes is put
 pub put-part : {A E : Type 0} (r : Result A E) (old : Option (List ℕ)) (bytes : List ℕ) (new : Option (List ℕ))
@@ -102,25 +103,28 @@ tells-run : (block : Block) (seed : ℕ) → TellsFailed (run_report block seed)
 unfolding run_report
 tells-run block seed = tells-difference block seed (sampled block seed)
 
-tells-block : (command : Command) (block : Result Block Kind) → TellsFailed (block_report command block) None
+tells-block : (command : Proving) (block : Result Block Kind) → TellsFailed (block_report command block) None
 tells-block command (Ok block) = tells-run block command.seed
 tells-block command (Err kind) = refl
 
-tells-answer : (command : Command) (rdl ports verilog : List ℕ) → TellsFailed (answer_to command rdl ports verilog) None
+tells-answer : (command : Proving) (rdl ports verilog : List ℕ) → TellsFailed (answer_to command rdl ports verilog) None
 unfolding answer_to
 tells-answer command rdl ports verilog = tells-block command (block_of rdl ports verilog)
 
-tells-files : (command : Command) (files : Result (List (List ℕ)) Shortfall) → TellsFailed (files_report command files) None
+tells-files : (command : Proving) (files : Result (List (List ℕ)) Shortfall) → TellsFailed (files_report command files) None
 tells-files command (Err short) = tells-short short
 tells-files command (Ok files) = tells-answer command _ _ _
 
+tells-proving : (files : Files) (proving : Option Proving) → TellsFailed (proving_report files proving) None
+tells-proving files None = refl
+tells-proving files (Some proving) = tells-files proving (gathered files (wanted_of proving))
+
 tells-command : (files : Files) (command : Option Command) → TellsFailed (command_report files command) None
 tells-command files None = refl
-tells-command files (Some command) = tells-files command (gathered files (wanted_of command))
+tells-command files (Some command) = tells-proving files (proving_of command)
 
 tells-report_of : (files : Files) (words : List (List ℕ)) → TellsFailed (report_of files words) None
-tells-report_of files [] = refl
-tells-report_of files (word ∷ words) = tells-command files (command_of (word ∷ words))
+tells-report_of files words = tells-command files (command_of words)
 
 -- where memory is wanted, some report may have been due
 unless-tells : (report : Report) → TellsFailed report None → (P : Type 0) → P → UnlessFault report P

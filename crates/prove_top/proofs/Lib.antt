@@ -10,3 +10,4 @@ mod VerilogLemmas
 mod ReadingLemmas
 mod EndLemmas
 mod ClauseLemmas
+mod WordLemmas

@@ -1,15 +1,16 @@
 -- What an answer to three texts tells of the whole command.
-use Rattle.std.proofs.Common.{◌≡◌, ℕ, List, [], ◌∷◌, Option, Some, None, Result, Ok, Err, IfOk, IfSome, sym, ap, subst}
+use Rattle.std.proofs.Common.{◌≡◌, ℕ, List, [], ◌∷◌, Option, Some, None, Result, Ok, Err, IfOk, IfSome, sym, ap, subst, ◌∙◌}
 use Rattle.tool_edge.specs.Files.{Files}
 use Rattle.tool_edge.specs.declared.depot.DepotCall.{DepotCall}
 use Rattle.prove_top.specs.declared.report.Report.{Report}
 use Rattle.prove_top.specs.declared.report.Report.TheVariants.{Usage, Refused, Refuted, Simulated, FaultRead}
 use Rattle.prove_top.specs.declared.words.Command.{Command}
-use Rattle.prove_top.specs.Answer.{IsAnswer, IsUsage, IfFault, UnlessFault, TellsFailed, report_of, command_report, command_answer}
+use Rattle.prove_top.specs.declared.words.Proving.{Proving}
+use Rattle.prove_top.specs.Answer.{IsAnswer, IsUsage, IfFault, UnlessFault, TellsFailed, report_of, command_report, proving_report, command_answer}
 use Rattle.prove_top.specs.declared.gather.Wanted.{Wanted}
 use Rattle.prove_top.specs.Gather.{names_of}
 use Rattle.prove_top.specs.Reads.{AreReads, ReadsOnly, failed_of}
-use Rattle.prove_top.specs.Words.{command_of}
+use Rattle.prove_top.specs.Words.{command_of, proving_of}
 
 answer-usage : (report : Report) → IsAnswer report → IsUsage report → ⊥
 answer-usage Usage answer usage = answer
@@ -56,14 +57,14 @@ reads-answered asked wanted before after r same answer all =
       ends = answered-tells r (failed_of all.added) answer all.ends;
     }
 
-report_of-command : (files : Files) (words : List (List ℕ)) (command : Command) → command_of words ≡ Some command → report_of files words ≡ command_answer files command
-report_of-command files [] command is = cc
-report_of-command files (word ∷ words) command is = ap (command_report files) is
+report_of-command : (files : Files) (words : List (List ℕ)) (command : Command) (proving : Proving) → command_of words ≡ Some command → proving_of command ≡ Some proving
+    → report_of files words ≡ command_answer files proving
+report_of-command files words command proving is answered = ap (command_report files) is ∙ ap (proving_report files) answered
 
-pub plan-answer : {E : Type 0} (told : Option Files) (r : Result Report E) (words : List (List ℕ)) (command : Command) → command_of words ≡ Some command
-    → IfSome told (λ files. IfOk r (λ report. UnlessFault report (report ≡ command_answer files command)))
+pub plan-answer : {E : Type 0} (told : Option Files) (r : Result Report E) (words : List (List ℕ)) (command : Command) (proving : Proving) → command_of words ≡ Some command → proving_of command ≡ Some proving
+    → IfSome told (λ files. IfOk r (λ report. UnlessFault report (report ≡ command_answer files proving)))
     → IfSome told (λ files. IfOk r (λ report. UnlessFault report (report ≡ report_of files words)))
-plan-answer None r words command is h = h
-plan-answer (Some files) r words command is h =
+plan-answer None r words command proving is answered h = h
+plan-answer (Some files) r words command proving is answered h =
     let P : Report → Type 0 = λ expected. IfOk r (λ report. UnlessFault report (report ≡ expected)) in
-    subst P (sym (report_of-command files words command is)) h
+    subst P (sym (report_of-command files words command proving is answered)) h

@@ -17,14 +17,15 @@ use Rattle.prove_top.specs.declared.report.Report.{Report}
 use Rattle.prove_top.specs.declared.report.Report.TheVariants.{Usage, Refused, Refuted, Simulated, FaultRead}
 use Rattle.prove_top.specs.declared.verilog.Drivers.{Drivers}
 use Rattle.prove_top.specs.declared.words.Command.{Command}
+use Rattle.prove_top.specs.declared.words.Proving.{Proving}
 use Rattle.prove_top.specs.Description.{reset_of}
 use Rattle.prove_top.specs.Gather.{gathered, names_of}
 use Rattle.prove_top.specs.Sampled.{sampled, sampled_trace}
 use Rattle.prove_top.specs.Verilog.{drivers_of}
-use Rattle.prove_top.specs.Words.{command_of}
+use Rattle.prove_top.specs.Words.{command_of, proving_of, proving_asked}
 
 -- the files of a command, in the order of its words
-abbrev pub wanted_of : Command → List Wanted
+abbrev pub wanted_of : Proving → List Wanted
 wanted_of command =
     record { name = command.rdl; limit = DESCRIPTION_LIMIT; kind = Description }
     ∷ record { name = command.ports; limit = PORTS_LIMIT; kind = Ports }
@@ -40,7 +41,7 @@ abbrev pub short_report : Shortfall → Report
 short_report (Missing name) = Refused NoFile name
 short_report (Long kind name) = Refused (size_refusal kind) name
 
-abbrev pub name_of : Command → Kind → List ℕ
+abbrev pub name_of : Proving → Kind → List ℕ
 name_of command Description = command.rdl
 name_of command Ports = command.ports
 name_of command Verilog = command.verilog
@@ -64,37 +65,40 @@ unfoldable pub run_report : Block → ℕ → Report
 run_report block seed = difference_report block seed (sampled block seed)
 
 -- the report of a command on its three texts
-abbrev pub block_report : Command → Result Block Kind → Report
+abbrev pub block_report : Proving → Result Block Kind → Report
 block_report command (Ok block) = run_report block command.seed
 block_report command (Err kind) = Refused NotYet (name_of command kind)
 
-unfoldable pub answer_to : Command → List ℕ → List ℕ → List ℕ → Report
+unfoldable pub answer_to : Proving → List ℕ → List ℕ → List ℕ → Report
 answer_to command rdl ports verilog = block_report command (block_of rdl ports verilog)
 
 -- the report of a command on the told files
-abbrev pub files_report : Command → Result (List (List ℕ)) Shortfall → Report
+abbrev pub files_report : Proving → Result (List (List ℕ)) Shortfall → Report
 files_report command (Err short) = short_report short
 files_report command (Ok files) = answer_to command (slice_index_or files 0 []) (slice_index_or files 1 []) (slice_index_or files 2 [])
 
-abbrev pub command_answer : Files → Command → Report
+abbrev pub command_answer : Files → Proving → Report
 command_answer files command = files_report command (gathered files (wanted_of command))
 
 -- the report of the words
+abbrev pub proving_report : Files → Option Proving → Report
+proving_report files None = Refused NotYet (codes "words")
+proving_report files (Some proving) = command_answer files proving
+
 abbrev pub command_report : Files → Option Command → Report
-command_report files None = Refused NotYet (codes "words")
-command_report files (Some command) = command_answer files command
+command_report files None = Usage
+command_report files (Some command) = proving_report files (proving_of command)
 
 abbrev pub report_of : Files → List (List ℕ) → Report
-report_of files [] = Usage
-report_of files (word ∷ words) = command_report files (command_of (word ∷ words))
+report_of files words = command_report files (command_of words)
 
 -- the names that the words ask for
-abbrev pub command_names : Option Command → List (List ℕ)
-command_names None = []
-command_names (Some command) = names_of (wanted_of command)
+abbrev pub proving_names : Option Proving → List (List ℕ)
+proving_names None = []
+proving_names (Some proving) = names_of (wanted_of proving)
 
 abbrev pub names_asked : List (List ℕ) → List (List ℕ)
-names_asked words = command_names (command_of words)
+names_asked words = proving_names (proving_asked words)
 
 -- facts about one kind of report
 abbrev pub IsUsage : Report → Type 0

@@ -14,14 +14,14 @@ use Rattle.prove_top.specs.declared.report.Report.TheVariants.{FaultRead}
 use Rattle.prove_top.specs.declared.report.Status.{Status}
 use Rattle.prove_top.specs.declared.report.Status.TheVariants as status
 use Rattle.prove_top.specs.declared.report.TheConstants.{MEMORY_LINE}
-use Rattle.prove_top.specs.declared.words.Command.{Command}
+use Rattle.prove_top.specs.declared.words.Proving.{Proving}
 use Rattle.prove_top.specs.Answer.{block_of, wanted_of}
 use Rattle.prove_top.specs.Ends.{MayReport}
 use Rattle.prove_top.specs.Gather.{gathered}
 use Rattle.prove_top.specs.Reads.{failed_of}
 use Rattle.prove_top.specs.Report.{text_of}
 use Rattle.prove_top.specs.Sampled.{sampled}
-use Rattle.prove_top.specs.Words.{command_of}
+use Rattle.prove_top.specs.Words.{proving_asked}
 
 -- what was added to a told list of calls, of which P holds
 pub record Added (before after : Option (List DepotCall)) (P : List DepotCall → Type 0) : Type 0 where
@@ -65,16 +65,16 @@ abbrev pub with_block : ℕ → Result Block Kind → Option (Block × ℕ)
 with_block seed (Ok block) = Some (block, seed)
 with_block seed (Err kind) = None
 
-abbrev pub texts_block : Command → Result (List (List ℕ)) Shortfall → Option (Block × ℕ)
+abbrev pub texts_block : Proving → Result (List (List ℕ)) Shortfall → Option (Block × ℕ)
 texts_block command (Ok texts) = with_block command.seed (block_of (slice_index_or texts 0 []) (slice_index_or texts 1 []) (slice_index_or texts 2 []))
 texts_block command (Err short) = None
 
-abbrev pub command_block : Files → Option Command → Option (Block × ℕ)
+abbrev pub command_block : Files → Option Proving → Option (Block × ℕ)
 command_block files None = None
 command_block files (Some command) = texts_block command (gathered files (wanted_of command))
 
 abbrev pub asked_block : Files → List (List ℕ) → Option (Block × ℕ)
-asked_block files words = command_block files (command_of words)
+asked_block files words = command_block files (proving_asked words)
 
 -- their sampled run has a difference, or has none
 abbrev pub SampledDiffers : Files → List (List ℕ) → Type 0

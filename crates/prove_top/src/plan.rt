@@ -1,6 +1,6 @@
 //! What a command comes to, before it is reported.
 
-ghost use Rattle.std.specs.Prelude.{◌≡◌, ◌+◌, ◌<◌, ◌≤◌, ◌↔◌, [], length, take, IfOk, IfSome};
+ghost use Rattle.std.specs.Prelude.{◌≡◌, ◌+◌, ◌<◌, ◌≤◌, ◌↔◌, None, length, take, IfOk, IfSome};
 ghost use Rattle.prove_top.specs.Sampled.{cut_trace};
 ghost use Rattle.tool_edge.specs.Causes.{Rose};
 ghost use Rattle.prove_top.specs.Words.{command_of};
@@ -13,7 +13,7 @@ use crate::gather::{Halt, Kind, Shortfall, Wanted, fetch_all};
 use crate::report::{Refusal, Report};
 use crate::sampled::{Run, sampled_run};
 use crate::verilog::drivers_of;
-use crate::words::{Command, command_of};
+use crate::words::{Proving, command_of, proving_of};
 use bit_base::text::{Text, text_of};
 use std::alloc::{AllocError, Global};
 use std::convert::From;
@@ -36,7 +36,7 @@ pub(crate) const PORTS: &[u8] =
     b"clock clk\nreset rst_n low 1\npsel psel\npenable penable\npwrite pwrite\npaddr paddr\npwdata pwdata\nprdata prdata\npready pready\npslverr pslverr\nwait 0\nunmapped zero\n\nout c.v v\n";
 
 /// The files of a command.
-fn wanted_of(alloc: Global, command: &Command) -> Result<Vec<Wanted>, AllocError>
+fn wanted_of(alloc: Global, command: &Proving) -> Result<Vec<Wanted>, AllocError>
     ensures { IfOk result (λ wanted. wanted.items ≡ wanted_of command.now) }
 {
     let description = Wanted {
@@ -74,7 +74,7 @@ fn short_report(short: Shortfall) -> Report
 }
 
 /// The name of a command's file of this kind.
-fn name_of(command: &Command, kind: Kind) -> &Text
+fn name_of(command: &Proving, kind: Kind) -> &Text
     ensures { result.now ≡ name_of command.now kind }
 {
     match kind {
@@ -137,7 +137,7 @@ fn run_report(alloc: Global, block: &Block, seed: u64) -> Result<Report, AllocEr
 #[tactic(auto, unfolding(crate::specs::Answer::answer_to))]
 fn answer_to(
     alloc: Global,
-    command: &Command,
+    command: &Proving,
     rdl: &[u8],
     ports: &[u8],
     verilog: &[u8],
@@ -152,7 +152,7 @@ fn answer_to(
 }
 
 /// The report of a command: its files are fetched, and answered.
-fn prove<D: Depot>(alloc: Global, command: &Command, depot: &mut D) -> Result<Report, AllocError>
+fn prove<D: Depot>(alloc: Global, command: &Proving, depot: &mut D) -> Result<Report, AllocError>
     ensures files { D.files depot.new ≡ D.files depot.old }
     ensures answer { IfSome (D.files depot.old) (λ files. IfOk result (λ report. UnlessFault report (report ≡ command_answer files command.now))) }
     ensures usage { IfOk result (λ report. IsUsage report → ⊥) }
@@ -177,16 +177,16 @@ pub(crate) fn plan<D: Depot>(
 ) -> Result<Report, AllocError>
     ensures files { D.files depot.new ≡ D.files depot.old }
     ensures answer { IfSome (D.files depot.old) (λ files. IfOk result (λ report. UnlessFault report (report ≡ report_of files words.now))) }
-    ensures usage { IfOk result (λ report. IsUsage report ↔ (words.now ≡ [])) }
+    ensures usage { IfOk result (λ report. IsUsage report ↔ (command_of words.now ≡ None)) }
     ensures calls { ReadsOnly (names_asked words.now) (D.calls depot.old) (D.calls depot.new) (λ added. IfOk result (λ report. TellsFailed report (failed_of added))) }
     ensures count { D.faults depot.old ≤ D.faults depot.new }
     ensures rose { IfOk result (λ report. IfFault report (Rose (D.faults depot.old) (D.faults depot.new))) }
 {
-    if words.is_empty() {
+    let Some(command) = command_of(alloc, words)? else {
         return Ok(Report::Usage);
-    }
-    match command_of(alloc, words)? {
-        Some(command) => prove(alloc, &command, depot),
+    };
+    match proving_of(command) {
+        Some(proving) => prove(alloc, &proving, depot),
         None => Ok(Report::Refused(Refusal::NotYet, text_of(alloc, b"words".as_slice())?)),
     }
 }

@@ -164,19 +164,173 @@ fn each_row_has_its_answer(rt: HostRuntime) -> Result<(), Fail> {
             Status::Usage,
             "usage: rdlprove prove, check, replay, map, sample or equal\n",
         ),
-        ("equal", Status::Refused, "refused 801 words:0:0 NotYet\n"),
+        (
+            "equal",
+            Status::Usage,
+            "usage: rdlprove prove, check, replay, map, sample or equal\n",
+        ),
+        (
+            "equal a.rdl a.ports a.v b.v",
+            Status::Usage,
+            "usage: rdlprove prove, check, replay, map, sample or equal\n",
+        ),
+        (
+            "--help",
+            Status::Usage,
+            "usage: rdlprove prove, check, replay, map, sample or equal\n",
+        ),
+        (
+            "prove",
+            Status::Usage,
+            "usage: rdlprove prove, check, replay, map, sample or equal\n",
+        ),
+        (
+            "prove a.rdl a.ports",
+            Status::Usage,
+            "usage: rdlprove prove, check, replay, map, sample or equal\n",
+        ),
+        (
+            "prove a.rdl a.ports --seed 1",
+            Status::Usage,
+            "usage: rdlprove prove, check, replay, map, sample or equal\n",
+        ),
+        (
+            "prove --seed 1 a.rdl a.ports f.v",
+            Status::Usage,
+            "usage: rdlprove prove, check, replay, map, sample or equal\n",
+        ),
+        (
+            "prove a.rdl a.ports f.v --seed",
+            Status::Usage,
+            "usage: rdlprove prove, check, replay, map, sample or equal\n",
+        ),
         (
             "prove a.rdl a.ports f.v --seed 01",
-            Status::Refused,
-            "refused 801 words:0:0 NotYet\n",
+            Status::Usage,
+            "usage: rdlprove prove, check, replay, map, sample or equal\n",
         ),
         (
             "prove a.rdl a.ports f.v --seed 18446744073709551616",
+            Status::Usage,
+            "usage: rdlprove prove, check, replay, map, sample or equal\n",
+        ),
+        (
+            "prove a.rdl a.ports f.v --seed 1 --seed 1",
+            Status::Usage,
+            "usage: rdlprove prove, check, replay, map, sample or equal\n",
+        ),
+        (
+            "prove a.rdl a.ports f.v --bound 0",
+            Status::Usage,
+            "usage: rdlprove prove, check, replay, map, sample or equal\n",
+        ),
+        (
+            "prove a.rdl a.ports f.v --bound 33",
+            Status::Usage,
+            "usage: rdlprove prove, check, replay, map, sample or equal\n",
+        ),
+        (
+            "prove a.rdl a.ports f.v --budget 200001",
+            Status::Usage,
+            "usage: rdlprove prove, check, replay, map, sample or equal\n",
+        ),
+        (
+            "prove a.rdl a.ports f.v --guards",
+            Status::Usage,
+            "usage: rdlprove prove, check, replay, map, sample or equal\n",
+        ),
+        (
+            "prove a.rdl a.ports f.v --trace --seed",
+            Status::Usage,
+            "usage: rdlprove prove, check, replay, map, sample or equal\n",
+        ),
+        (
+            "prove a.rdl a.ports --v",
+            Status::Usage,
+            "usage: rdlprove prove, check, replay, map, sample or equal\n",
+        ),
+        (
+            "prove a b c d e f g h i j k l m n o p q r s",
+            Status::Usage,
+            "usage: rdlprove prove, check, replay, map, sample or equal\n",
+        ),
+        (
+            "check a.cert a.rdl a.ports",
+            Status::Usage,
+            "usage: rdlprove prove, check, replay, map, sample or equal\n",
+        ),
+        (
+            "check a.cert a.rdl a.ports a.v --seed 1",
+            Status::Usage,
+            "usage: rdlprove prove, check, replay, map, sample or equal\n",
+        ),
+        (
+            "replay t.trace a.rdl a.ports",
+            Status::Usage,
+            "usage: rdlprove prove, check, replay, map, sample or equal\n",
+        ),
+        (
+            "map",
+            Status::Usage,
+            "usage: rdlprove prove, check, replay, map, sample or equal\n",
+        ),
+        (
+            "map a.rdl b.rdl",
+            Status::Usage,
+            "usage: rdlprove prove, check, replay, map, sample or equal\n",
+        ),
+        (
+            "sample",
+            Status::Usage,
+            "usage: rdlprove prove, check, replay, map, sample or equal\n",
+        ),
+        (
+            "sample -1",
+            Status::Usage,
+            "usage: rdlprove prove, check, replay, map, sample or equal\n",
+        ),
+        (
+            "sample 01",
+            Status::Usage,
+            "usage: rdlprove prove, check, replay, map, sample or equal\n",
+        ),
+        (
+            "prove a.rdl a.ports f.v g.v",
             Status::Refused,
             "refused 801 words:0:0 NotYet\n",
         ),
         (
-            "prove a.rdl a.ports --v",
+            "prove a b c d e f g h i j k l m n o p q r",
+            Status::Refused,
+            "refused 801 words:0:0 NotYet\n",
+        ),
+        (
+            "prove a.rdl a.ports f.v --bound 32",
+            Status::Refused,
+            "refused 801 words:0:0 NotYet\n",
+        ),
+        (
+            "prove a.rdl a.ports f.v --budget 200000 --seed 1 --bound 1",
+            Status::Refused,
+            "refused 801 words:0:0 NotYet\n",
+        ),
+        (
+            "prove a.rdl a.ports f.v --cert c",
+            Status::Refused,
+            "refused 801 words:0:0 NotYet\n",
+        ),
+        (
+            "check a.cert a.rdl a.ports a.v",
+            Status::Refused,
+            "refused 801 words:0:0 NotYet\n",
+        ),
+        (
+            "map a.rdl",
+            Status::Refused,
+            "refused 801 words:0:0 NotYet\n",
+        ),
+        (
+            "sample 0",
             Status::Refused,
             "refused 801 words:0:0 NotYet\n",
         ),

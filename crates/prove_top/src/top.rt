@@ -9,10 +9,11 @@ ghost use Rattle.prove_top.specs.Ends.{Ends, EndsPut, Ran, UnlessFailed};
 ghost use Rattle.prove_top.specs.Gather.{gathered};
 ghost use Rattle.prove_top.specs.Reads.{AreReads, ReadsOnly, failed_of};
 ghost use Rattle.prove_top.specs.Report.{status_of, trace_of, text_of};
-ghost use Rattle.prove_top.specs.Words.{command_of};
+ghost use Rattle.prove_top.specs.Words.{command_of, proving_asked, proving_of};
 ghost use Rattle.prove_top.specs.declared.gather.Kind.{Kind};
 ghost use Rattle.prove_top.specs.declared.gather.Shortfall.{Shortfall};
 ghost use Rattle.prove_top.specs.declared.words.Command.{Command};
+ghost use Rattle.prove_top.specs.declared.words.Proving.{Proving};
 
 use crate::plan::plan;
 use crate::report::{MEMORY_LINE, Refusal, Report, Status};
@@ -80,7 +81,7 @@ fn want_memory<S: Sink>(alloc: Global, out: &mut S) -> Status
 fn run<D: Depot, S: Sink>(alloc: Global, words: &[Text], depot: &mut D, out: &mut S) -> Status
     ensures status { IfSome (D.files depot.old) (λ files. UnlessFailed result (result ≡ status_of (report_of files words.now))) }
     ensures text { IfSome (D.files depot.old) (λ files. UnlessFailed result (S.written out.new ≡ after_put (S.written out.old) (text_of (report_of files words.now)))) }
-    ensures usage { UnlessFailed result ((result ≡ Status.Usage) ↔ (words.now ≡ [])) }
+    ensures usage { UnlessFailed result ((result ≡ Status.Usage) ↔ (command_of words.now ≡ None)) }
     ensures fault { result ≡ Status.Fault → Rose (D.faults depot.old) (D.faults depot.new) ⊎ Rose (S.faults out.old) (S.faults out.new) }
     ensures reads { ReadsOnly (names_asked words.now) (D.calls depot.old) (D.calls depot.new) (Ran (D.files depot.old) words.now (S.written out.old) (S.written out.new) (S.faults out.old) (S.faults out.new) result) }
     ensures files { D.files depot.new ≡ D.files depot.old }
@@ -122,16 +123,16 @@ pub fn run_tool<D: Depot, S: Sink>(
     ensures report_put { IfSome (D.files depot.old) (λ files. UnlessFailed result.status (S.written out.new ≡ after_put (S.written out.old) (text_of (report_of files words.now)))) }
 
     // When each of these statuses comes.
-    ensures usage_iff { UnlessFailed result.status ((result.status ≡ Status.Usage) ↔ (words.now ≡ [])) }
-    ensures refused_iff { IfSome (D.files depot.old) (λ files. UnlessFailed result.status ((result.status ≡ Status.Refused) ↔ ((words.now ≢ []) × (asked_block files words.now ≡ None)))) }
+    ensures usage_iff { UnlessFailed result.status ((result.status ≡ Status.Usage) ↔ (command_of words.now ≡ None)) }
+    ensures refused_iff { IfSome (D.files depot.old) (λ files. UnlessFailed result.status ((result.status ≡ Status.Refused) ↔ ((command_of words.now ≢ None) × (asked_block files words.now ≡ None)))) }
     ensures refuted_sampled_iff { IfSome (D.files depot.old) (λ files. UnlessFailed result.status ((result.status ≡ Status.No) ↔ SampledDiffers files words.now)) }
     ensures simulated_iff { IfSome (D.files depot.old) (λ files. UnlessFailed result.status ((result.status ≡ Status.Unknown) ↔ SampledAgrees files words.now)) }
 
     // The refusals: a file that isn't there or is too long, words that aren't a command, and a file
     // that isn't of the first form.
-    ensures no_file_and_long_file { IfSome (D.files depot.old) (λ files. (command : Command) (short : Shortfall) → command_of words.now ≡ Some command → gathered files (wanted_of command) ≡ Err short → UnlessFailed result.status (S.written out.new ≡ after_put (S.written out.old) (text_of (short_report short)))) }
-    ensures not_yet_words { IfSome (D.files depot.old) (λ files. words.now ≢ [] → command_of words.now ≡ None → UnlessFailed result.status (S.written out.new ≡ after_put (S.written out.old) (text_of (Report.Refused Refusal.NotYet (codes "words"))))) }
-    ensures not_yet_file { IfSome (D.files depot.old) (λ files. (command : Command) (texts : List (List ℕ)) (kind : Kind) → command_of words.now ≡ Some command → gathered files (wanted_of command) ≡ Ok texts → block_of (slice_index_or texts 0 []) (slice_index_or texts 1 []) (slice_index_or texts 2 []) ≡ Err kind → UnlessFailed result.status (S.written out.new ≡ after_put (S.written out.old) (text_of (Report.Refused Refusal.NotYet (name_of command kind))))) }
+    ensures no_file_and_long_file { IfSome (D.files depot.old) (λ files. (command : Proving) (short : Shortfall) → proving_asked words.now ≡ Some command → gathered files (wanted_of command) ≡ Err short → UnlessFailed result.status (S.written out.new ≡ after_put (S.written out.old) (text_of (short_report short)))) }
+    ensures not_yet_words { IfSome (D.files depot.old) (λ files. (command : Command) → command_of words.now ≡ Some command → proving_of command ≡ None → UnlessFailed result.status (S.written out.new ≡ after_put (S.written out.old) (text_of (Report.Refused Refusal.NotYet (codes "words"))))) }
+    ensures not_yet_file { IfSome (D.files depot.old) (λ files. (command : Proving) (texts : List (List ℕ)) (kind : Kind) → proving_asked words.now ≡ Some command → gathered files (wanted_of command) ≡ Ok texts → block_of (slice_index_or texts 0 []) (slice_index_or texts 1 []) (slice_index_or texts 2 []) ≡ Err kind → UnlessFailed result.status (S.written out.new ≡ after_put (S.written out.old) (text_of (Report.Refused Refusal.NotYet (name_of command kind))))) }
 
     // Nothing is kept beside the status, and neither count falls.
     ensures evidence { result.evidence ≡ Evidence.Nothing }
