@@ -11,3 +11,4 @@ mod ReadingLemmas
 mod EndLemmas
 mod ClauseLemmas
 mod WordLemmas
+mod RefutedLemmas

@@ -1,5 +1,5 @@
 -- The words of the top call's clauses.
-use Rattle.std.specs.Prelude.{◌≡◌, ◌≢◌, ◌↔◌, ℕ, Bool, false, Option, Some, None, Result, Ok, Err, List, [], ◌∷◌, slice_index_or, ◌⊎◌, ⊤, IsSome, IsSomeAnd}
+use Rattle.std.specs.Prelude.{◌≡◌, ◌≢◌, ◌↔◌, ℕ, Bool, false, Option, Some, None, Result, Ok, Err, List, [], ◌∷◌, ◌++◌, slice_index_or, ◌⊎◌, ⊤, IsSome, IsSomeAnd}
 use Rattle.tool_edge.specs.Causes.{Rose}
 use Rattle.tool_edge.specs.Files.{Files}
 use Rattle.tool_edge.specs.Calls.{after_calls}
@@ -19,7 +19,10 @@ use Rattle.prove_top.specs.Answer.{block_of, wanted_of}
 use Rattle.prove_top.specs.Ends.{MayReport}
 use Rattle.prove_top.specs.Gather.{gathered}
 use Rattle.prove_top.specs.Reads.{failed_of}
-use Rattle.prove_top.specs.Report.{text_of}
+use Rattle.trace_replay.specs.declared.joint.Difference.{Difference}
+use Rattle.trace_replay.specs.Laws.{EndsThere}
+use Rattle.trace_replay.specs.TraceText.{trace_text}
+use Rattle.prove_top.specs.Report.{text_of, refuted_line}
 use Rattle.prove_top.specs.Sampled.{sampled}
 use Rattle.prove_top.specs.Words.{proving_asked}
 
@@ -82,3 +85,16 @@ SampledDiffers files words = IsSomeAnd (asked_block files words) (λ asked. IsSo
 
 abbrev pub SampledAgrees : Files → List (List ℕ) → Type 0
 SampledAgrees files words = IsSomeAnd (asked_block files words) (λ asked. sampled asked.0 asked.1 ≡ None)
+
+-- what is put is the line of a difference and the text of a legal trace of the block that words and told
+-- files give, whose run has its first difference, that of the line, at its last edge
+pub record RefutedReplays (files : Files) (words : List (List ℕ)) (old new : Option (List ℕ)) : Type 0 where
+  pub block : Block
+  pub seed : ℕ
+  pub asked : asked_block files words ≡ Some (block, seed)
+  pub start : List Bool
+  pub edges : List (List Bool)
+  pub edge : ℕ
+  pub difference : Difference
+  pub ends : EndsThere block start edges edge difference
+  pub put : new ≡ after_put old (refuted_line edge difference ++ 10 ∷ [] ++ trace_text start edges)

@@ -4,7 +4,7 @@ ghost use Rattle.std.specs.Prelude.{◌≡◌, ◌≢◌, ◌≤◌, ◌↔◌, 
 ghost use Rattle.tool_edge.specs.Causes.{Rose};
 ghost use Rattle.tool_edge.specs.Written.{after_put, AppendsPart};
 ghost use Rattle.prove_top.specs.Answer.{block_of, name_of, names_asked, report_of, short_report, wanted_of};
-ghost use Rattle.prove_top.specs.Clauses.{Added, IsFaultOrMemory, NoStores, PutsFault, PutsPart, PutsPartThenMemory, SampledAgrees, SampledDiffers, WholeButTheLast, asked_block};
+ghost use Rattle.prove_top.specs.Clauses.{Added, IsFaultOrMemory, NoStores, PutsFault, PutsPart, PutsPartThenMemory, RefutedReplays, SampledAgrees, SampledDiffers, WholeButTheLast, asked_block};
 ghost use Rattle.prove_top.specs.Ends.{Ends, EndsPut, Ran, UnlessFailed};
 ghost use Rattle.prove_top.specs.Gather.{gathered};
 ghost use Rattle.prove_top.specs.Reads.{AreReads, ReadsOnly, failed_of};
@@ -105,7 +105,7 @@ pub fn run_tool<D: Depot, S: Sink>(
     // after one that isn't whole; there is no store, and no file changes.
     ensures reads_in_order { Added (D.calls depot.old) (D.calls depot.new) (AreReads (names_asked words.now)) }
     ensures reads_stop { Added (D.calls depot.old) (D.calls depot.new) WholeButTheLast }
-    ensures no_stores { Added (D.calls depot.old) (D.calls depot.new) NoStores }
+    ensures store_after_reads { Added (D.calls depot.old) (D.calls depot.new) NoStores }
     ensures files_kept { D.files depot.new ≡ D.files depot.old }
 
     // Where the last added call failed.
@@ -126,6 +126,7 @@ pub fn run_tool<D: Depot, S: Sink>(
     ensures usage_iff { UnlessFailed result.status ((result.status ≡ Status.Usage) ↔ (command_of words.now ≡ None)) }
     ensures refused_iff { IfSome (D.files depot.old) (λ files. UnlessFailed result.status ((result.status ≡ Status.Refused) ↔ ((command_of words.now ≢ None) × (asked_block files words.now ≡ None)))) }
     ensures refuted_sampled_iff { IfSome (D.files depot.old) (λ files. UnlessFailed result.status ((result.status ≡ Status.No) ↔ SampledDiffers files words.now)) }
+    ensures refuted_replays { IfSome (D.files depot.old) (λ files. result.status ≡ Status.No → RefutedReplays files words.now (S.written out.old) (S.written out.new)) }
     ensures simulated_iff { IfSome (D.files depot.old) (λ files. UnlessFailed result.status ((result.status ≡ Status.Unknown) ↔ SampledAgrees files words.now)) }
 
     // The refusals: a file that isn't there or is too long, words that aren't a command, and a file
@@ -135,9 +136,8 @@ pub fn run_tool<D: Depot, S: Sink>(
     ensures not_yet_file { IfSome (D.files depot.old) (λ files. (command : Proving) (texts : List (List ℕ)) (kind : Kind) → proving_asked words.now ≡ Some command → gathered files (wanted_of command) ≡ Ok texts → block_of (slice_index_or texts 0 []) (slice_index_or texts 1 []) (slice_index_or texts 2 []) ≡ Err kind → UnlessFailed result.status (S.written out.new ≡ after_put (S.written out.old) (text_of (Report.Refused Refusal.NotYet (name_of command kind))))) }
 
     // Nothing is kept beside the status, and neither count falls.
-    ensures evidence { result.evidence ≡ Evidence.Nothing }
-    ensures depot_count { D.faults depot.old ≤ D.faults depot.new }
-    ensures sink_count { S.faults out.old ≤ S.faults out.new }
+    ensures evidence_iff { result.evidence ≡ Evidence.Nothing }
+    ensures counts_rise { (D.faults depot.old ≤ D.faults depot.new) × (S.faults out.old ≤ S.faults out.new) }
 {
     let status = run(alloc, words, depot, out);
     Ended {

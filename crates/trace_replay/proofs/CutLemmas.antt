@@ -1,16 +1,23 @@
 -- A run that is cut after its first difference.
-use Rattle.std.proofs.Common.{◌≡◌, ℕ, zero, suc, ◌+◌, ◌<◌, ◌≤◌, Bool, Option, Some, None, List, [], ◌∷◌, length, take, map, refl, sym, ◌∙◌, ap, arith, add-one, zero-add}
+use Rattle.std.proofs.Common.{◌≡◌, ℕ, zero, suc, ◌+◌, ◌<◌, ◌≤◌, Bool, Option, Some, None, List, [], ◌∷◌, length, take, map, refl, sym, ◌∙◌, ap, subst, arith, add-one, zero-add}
 use Rattle.std.proofs.lemmas.List.{take-map, length-take-le, length-map}
-use Rattle.bit_base.specs.Numbers.{number_of}
+use Rattle.std.specs.List.{All}
+use Rattle.std.proofs.lemmas.List.Elements.{All-take}
+use Rattle.bit_base.specs.Numbers.{number_of, low_bits}
+use Rattle.apb_rules.specs.declared.wires.Choice.{Choice}
 use Rattle.apb_rules.specs.declared.wires.BusWires.{BusWires}
 use Rattle.trace_replay.specs.Blocks.{FlatBlock}
 use Rattle.trace_replay.specs.declared.joint.Difference.{Difference}
 use Rattle.trace_replay.specs.States.{JointParts}
-use Rattle.trace_replay.specs.Joint.{difference_at, state_after, start_of, first_or, first_from, first_difference}
-use Rattle.trace_replay.specs.Laws.{EndsThere, CutAtFirst}
-use Rattle.trace_replay.specs.LegalTrace.{HasSizes, IsLegalTrace}
-use Rattle.trace_replay.specs.Trace.{HasAllInputs, edge_wires, trace_difference}
-use Rattle.trace_replay.proofs.AllowedLemmas.{prefix-allowed}
+use Rattle.trace_replay.specs.Joint.{difference_at, state_after, start_of, first_or, first_from, first_difference, wires_from}
+use Rattle.trace_replay.specs.Laws.{EndsThere, CutAtFirst, RunEndsThere}
+use Rattle.trace_replay.specs.LegalTrace.{FitsPins, HasSizes, IsLegalTrace}
+use Rattle.trace_replay.specs.declared.joint.TheConstants.{RESET_EDGES}
+use Rattle.trace_replay.specs.declared.trace.TheConstants.{START_BITS, EDGE_LIMIT}
+use Rattle.trace_replay.specs.Trace.{HasAllInputs, edges_from, edge_wires, trace_difference}
+use Rattle.trace_replay.proofs.AllowedLemmas.{AllowedFrom, prefix-allowed, allowed-whole, start-resets}
+use Rattle.trace_replay.proofs.RunLemmas.{low-number, run-allowed, edges-length, wires-length, map-wires, take-wires}
+use Rattle.trace_replay.proofs.TraceLemmas.{edges_from-whole}
 
 found-same : (a e : ℕ) (b d : Difference) → ◌≡◌ {A = Option (ℕ × Difference)} (Some (a, b)) (Some (e, d)) → (a ≡ e) × (b ≡ d)
 found-same a e b d same = let pair : ◌≡◌ {A = ℕ × Difference} (a, b) (e, d) = cc in (ap (λ p. p.0) pair, ap (λ p. p.1) pair)
@@ -88,3 +95,42 @@ module _ (block : FlatBlock) where
 
 pub cut-at-first : CutAtFirst
 cut-at-first block start edges edge difference legal found = cut-there block start edges edge difference legal found
+
+cut-run-there : (block : FlatBlock) (register : ℕ) (choices : List Choice) (edge : ℕ) (difference : Difference) → register < 256 → length choices ≤ EDGE_LIMIT → All FitsPins choices
+    → first_difference block register (wires_from block (start_of block register) choices) ≡ Some (edge, difference)
+    → EndsThere block (low_bits START_BITS register) (edges_from block (start_of block register) (take (edge + 1) (wires_from block (start_of block register) choices))) edge difference
+unfolding trace_difference
+cut-run-there block register choices edge difference small few pins found =
+    let first = start_of block register in
+    let run = wires_from block first choices in
+    let start = low_bits START_BITS register in
+    let number : number_of start ≡ register = low-number 8 register small in
+    let inside : edge < 0 + length run = first-inside block run first 0 edge difference found in
+    let cut : List BusWires = take (edge + 1) run in
+    let fewer : cut ≡ wires_from block first (take (edge + 1) choices) = take-wires block (edge + 1) choices first in
+    let long : length cut ≡ edge + 1 = length-take-le (edge + 1) run (omega arith) in
+    let edges : List (List Bool) = edges_from block first cut in
+    let P : List BusWires → Type 0 = λ ws. AllowedFrom block first (edges_from block first ws) in
+    let Q : ℕ → Type 0 = λ n. AllowedFrom block (start_of block n) edges in
+    let allowed : AllowedFrom block first edges =
+    subst P (sym fewer) (run-allowed block (take (edge + 1) choices) RESET_EDGES first (start-resets block register) tt (All-take FitsPins (edge + 1) choices pins)) in
+    let again : map edge_wires edges ≡ cut =
+    ap (λ ws. map edge_wires (edges_from block first ws)) fewer ∙ map-wires block (take (edge + 1) choices) first tt (All-take FitsPins (edge + 1) choices pins) ∙ sym fewer in
+    record {
+      legal = record {
+        sizes = record {
+          start_bits = refl;
+          input_bits = edges_from-whole block first cut;
+          few = omega (arith, edges-length block cut first, long, wires-length block choices first);
+        };
+        allowed = allowed-whole block start edges (subst Q (sym number) allowed);
+      };
+      last = edges-length block cut first ∙ long;
+      first =
+          ap (λ n. first_difference block n (map edge_wires edges)) number
+          ∙ ap (first_from block first 0) (again ∙ ap (λ n. take n run) (add-one edge))
+          ∙ first-cut block run first 0 edge edge difference (zero-add edge) found;
+    }
+
+pub cut-run : RunEndsThere
+cut-run block register choices edge difference small few pins found = cut-run-there block register choices edge difference small few pins found

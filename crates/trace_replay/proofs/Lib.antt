@@ -12,4 +12,4 @@ mod ReadLemmas
 mod AllowedLemmas
 mod RunLemmas
 mod TraceTheorem
-mod CutLemmas
+pub mod CutLemmas

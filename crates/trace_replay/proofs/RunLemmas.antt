@@ -37,7 +37,7 @@ record FitsWires (wires : BusWires) : Type 0 where
   strobe : wires.strobe ≡ 1
   prot : wires.prot ≡ 0
 
-abbrev FitsPhase : Phase → Type 0
+abbrev pub FitsPhase : Phase → Type 0
 FitsPhase Free = ⊤
 FitsPhase (Access held) = (held.address < 4) × (held.payload < 256)
 
@@ -75,7 +75,7 @@ same-wires : (wires : BusWires) (a p s q : ℕ) → a ≡ wires.address → p �
     → ◌≡◌ {A = BusWires} (record { select = wires.select; enable = wires.enable; write = wires.write; address = a; payload = p; strobe = s; prot = q }) wires
 same-wires wires a p s q one two three four = rw (one, two, three, four) refl
 
-low-number : (width n : ℕ) → n < 2 ^ width → number_of (low_bits width n) ≡ n
+pub low-number : (width n : ℕ) → n < 2 ^ width → number_of (low_bits width n) ≡ n
 low-number width n small = number_of-low_bits width n ∙ mod-eq_of_lt small
 
 bits-wires : (state : JointParts) (wires : BusWires) → FitsWires wires → edge_wires (edge_bits (pins_of state wires)) ≡ wires
@@ -112,7 +112,7 @@ module _ (block : FlatBlock) where
         (wires-fit state.phase (record choice { start = choice.start && not (in_reset state) }) phase (record { address_fits = pins.address_fits; payload_fits = pins.payload_fits })))
   ]
 
-  run-allowed : (choices : List Choice) (n : ℕ) (state : JointParts) → HasResets n state → FitsPhase state.phase → All FitsPins choices
+  pub run-allowed : (choices : List Choice) (n : ℕ) (state : JointParts) → HasResets n state → FitsPhase state.phase → All FitsPins choices
       → AllowedFrom block state (edges_from block state (wires_from block state choices))
   run-allowed [] n state has phase pins = tt
   run-allowed (choice ∷ choices) zero state has phase pins =
@@ -132,11 +132,11 @@ module _ (block : FlatBlock) where
         subst P (sym same) (run-allowed choices n (state_after block state wires) (next-on block n state wires has) (next-phase state choice phase fit) (All-tail FitsPins choice choices pins)),
       )
 
-  edges-length : (run : List BusWires) (state : JointParts) → length (edges_from block state run) ≡ length run
+  pub edges-length : (run : List BusWires) (state : JointParts) → length (edges_from block state run) ≡ length run
   edges-length [] state = refl
   edges-length (wires ∷ run) state = ap suc (edges-length run (state_after block state wires))
 
-  wires-length : (choices : List Choice) (state : JointParts) → length (wires_from block state choices) ≡ length choices
+  pub wires-length : (choices : List Choice) (state : JointParts) → length (wires_from block state choices) ≡ length choices
   wires-length [] state = refl
   wires-length (choice ∷ choices) state = ap suc (wires-length choices (state_after block state (wires_of state choice)))
 
@@ -179,3 +179,19 @@ module _ (block : FlatBlock) where
   run-end state inputs k edges all past so_far =
       sym (append-nil (lists_of edges))
       ∙ ap (λ rest. lists_of edges ++ edges_from block state (wires_from block state (choices_of rest))) (sym (drop_all k inputs past)) ∙ so_far
+
+  -- the bits of a run's edges give its wires back, and fewer choices give the first of them
+  pub map-wires : (choices : List Choice) (state : JointParts) → FitsPhase state.phase → All FitsPins choices
+      → map edge_wires (edges_from block state (wires_from block state choices)) ≡ wires_from block state choices
+  map-wires [] state phase pins = refl
+  map-wires (choice ∷ choices) state phase pins =
+      let wires = wires_of state choice in
+      let fit = All-head FitsPins choice choices pins in
+      let same = bits-wires state wires (wires-fit state.phase (record choice { start = choice.start && not (in_reset state) }) phase (record { address_fits = fit.address_fits; payload_fits = fit.payload_fits })) in
+      ap (λ first. first ∷ map edge_wires (edges_from block (state_after block state wires) (wires_from block (state_after block state wires) choices))) same
+      ∙ ap (λ rest. wires ∷ rest) (map-wires choices (state_after block state wires) (next-phase state choice phase fit) (All-tail FitsPins choice choices pins))
+
+  pub take-wires : (n : ℕ) (choices : List Choice) (state : JointParts) → take n (wires_from block state choices) ≡ wires_from block state (take n choices)
+  take-wires zero choices state = refl
+  take-wires (suc n) [] state = refl
+  take-wires (suc n) (choice ∷ choices) state = ap (λ rest. wires_of state choice ∷ rest) (take-wires n choices (state_after block state (wires_of state choice)))

@@ -1,9 +1,14 @@
 -- Laws of traces and their first differences.
-use Rattle.std.specs.Prelude.{◌≡◌, ℕ, ◌+◌, ◌<◌, Bool, Option, Some, List, length, take}
+use Rattle.std.specs.Prelude.{◌≡◌, ℕ, ◌+◌, ◌<◌, ◌≤◌, Bool, Option, Some, List, length, take}
+use Rattle.std.specs.List.{All}
+use Rattle.bit_base.specs.Numbers.{low_bits}
+use Rattle.apb_rules.specs.declared.wires.Choice.{Choice}
 use Rattle.trace_replay.specs.Blocks.{FlatBlock}
 use Rattle.trace_replay.specs.declared.joint.Difference.{Difference}
-use Rattle.trace_replay.specs.LegalTrace.{IsLegalTrace}
-use Rattle.trace_replay.specs.Trace.{trace_difference}
+use Rattle.trace_replay.specs.declared.trace.TheConstants.{START_BITS, EDGE_LIMIT}
+use Rattle.trace_replay.specs.Joint.{start_of, wires_from, first_difference}
+use Rattle.trace_replay.specs.LegalTrace.{FitsPins, IsLegalTrace}
+use Rattle.trace_replay.specs.Trace.{edges_from, trace_difference}
 
 -- a legal trace, cut after the edge of its first difference, is legal, and has that difference at its last
 -- edge
@@ -16,3 +21,11 @@ abbrev pub CutAtFirst : Type 0
 CutAtFirst = (block : FlatBlock) (start : List Bool) (edges : List (List Bool)) (edge : ℕ) (difference : Difference)
     → IsLegalTrace block start edges → trace_difference block start edges ≡ Some (edge, difference)
     → EndsThere block start (take (edge + 1) edges) edge difference
+
+-- so is the trace of a joint run under these choices, cut after the edge of its first difference
+abbrev pub RunEndsThere : Type 0
+RunEndsThere = (block : FlatBlock) (register : ℕ) (choices : List Choice) (edge : ℕ) (difference : Difference)
+    → register < 256 → length choices ≤ EDGE_LIMIT → All FitsPins choices
+    → first_difference block register (wires_from block (start_of block register) choices) ≡ Some (edge, difference)
+    → EndsThere block (low_bits START_BITS register)
+    (edges_from block (start_of block register) (take (edge + 1) (wires_from block (start_of block register) choices))) edge difference

@@ -1,5 +1,6 @@
 use Rattle.prove_top.specs.declared.report.Status.TheVariants as status
 use Rattle.prove_top.proofs.ClauseLemmas.{added-by, added-reads, reads-stop, reads-stores, last_failed, fault_report, fault_without, report_prefix, no_memory_bytes, status-iff, differs-status, agrees-status, refused-status, short-put, words-put, form-put}
+use Rattle.prove_top.proofs.RefutedLemmas.{refuted-put}
 use Rattle.prove_top.proofs.top.run_tool.Goals as goal
 
 pub returns-clause-reads_in_order : goal.returns-clause-reads_in_order
@@ -8,8 +9,8 @@ returns-clause-reads_in_order g c = added-reads _ _ _ _ c.run-status.ensures.rea
 pub returns-clause-reads_stop : goal.returns-clause-reads_stop
 returns-clause-reads_stop g c = added-by _ _ _ _ _ (λ calls reads ran. reads-stop _ calls reads) c.run-status.ensures.reads
 
-pub returns-clause-no_stores : goal.returns-clause-no_stores
-returns-clause-no_stores g c = added-by _ _ _ _ _ (λ calls reads ran. reads-stores _ calls reads) c.run-status.ensures.reads
+pub returns-clause-store_after_reads : goal.returns-clause-store_after_reads
+returns-clause-store_after_reads g c = added-by _ _ _ _ _ (λ calls reads ran. reads-stores _ calls reads) c.run-status.ensures.reads
 
 pub returns-clause-last_failed_is_fault : goal.returns-clause-last_failed_is_fault
 returns-clause-last_failed_is_fault g c = added-by _ _ _ _ _ (λ calls reads ran. last_failed _ _ _ _ _ _ _ calls ran) c.run-status.ensures.reads
@@ -43,3 +44,6 @@ returns-clause-not_yet_words g c = words-put _ _ c.args.words.now _ _ c.run-stat
 
 pub returns-clause-not_yet_file : goal.returns-clause-not_yet_file
 returns-clause-not_yet_file g c = form-put _ _ c.args.words.now _ _ c.run-status.ensures.text
+
+pub returns-clause-refuted_replays : goal.returns-clause-refuted_replays
+returns-clause-refuted_replays g c = refuted-put _ _ c.args.words.now _ _ c.run-status.ensures.status c.run-status.ensures.text
