@@ -76,6 +76,27 @@ fn pigeons(alloc: Global, holes: i32) -> Result<Vec<Vec<i32>>, AllocError> {
     Ok(lists)
 }
 
+/// That each variable of a cycle of so many differs from the next one.
+fn cycle(alloc: Global, length: i32) -> Result<Vec<Vec<i32>>, AllocError> {
+    let mut lists = Vec::new(alloc);
+    for variable in 1..length.clamp(2, 90).wrapping_add(1) {
+        let next = if variable == length {
+            1
+        } else {
+            variable.wrapping_add(1)
+        };
+        let mut either = Vec::new(alloc);
+        either.push(variable)?;
+        either.push(next)?;
+        lists.push(either)?;
+        let mut not_both = Vec::new(alloc);
+        not_both.push(variable.wrapping_neg())?;
+        not_both.push(next.wrapping_neg())?;
+        lists.push(not_both)?;
+    }
+    Ok(lists)
+}
+
 /// Runs the chains again over the formula: whether they add an empty clause.
 fn refutes(alloc: Global, formula: Formula, chains: Vec<Chain>) -> Result<bool, AllocError> {
     let mut lemmas = Lemmas::of(formula);
@@ -184,7 +205,7 @@ fn has_model(alloc: Global, vars: u32, lists: &[Vec<i32>]) -> Result<bool, Alloc
 #[test]
 fn random_answers_are_those_of_all_values(rt: HostRuntime) -> Result<(), Fail> {
     let alloc = rt.alloc();
-    for seed in 0..60u64 {
+    for seed in 0..200u64 {
         let lists = random_clauses(alloc, 9, 38, seed * 7919)?;
         let kind = if has_model(alloc, 9, lists.as_slice())? {
             Kind::Sat
@@ -212,6 +233,7 @@ fn answers_are_right(rt: HostRuntime) -> Result<(), Fail> {
         (2, 100, Kind::Unsat),
         (4, 10_000, Kind::Unsat),
         (5, 20_000, Kind::Unsat),
+        (6, 50_000, Kind::Unsat),
         (6, 1, Kind::Spent),
         (6, 2, Kind::Spent),
         (6, 10, Kind::Spent),
@@ -219,6 +241,16 @@ fn answers_are_right(rt: HostRuntime) -> Result<(), Fail> {
         let lists = pigeons(alloc, holes)?;
         let found = kind_of(alloc, 90, lists.as_slice(), budget)?;
         assert_eq!(rt; found, Some(kind), "{holes} {budget}");
+    }
+    for (length, kind) in [
+        (5, Kind::Unsat),
+        (6, Kind::Sat),
+        (89, Kind::Unsat),
+        (90, Kind::Sat),
+    ] {
+        let lists = cycle(alloc, length)?;
+        let found = kind_of(alloc, 90, lists.as_slice(), 1000)?;
+        assert_eq!(rt; found, Some(kind), "{length}");
     }
     Ok(())
 }
