@@ -5,3 +5,5 @@ pub mod SampleLemmas
 pub mod StateLemmas
 pub mod RowLemmas
 pub mod ListedLemmas
+pub mod KeptLemmas
+pub mod ThinLemmas

@@ -2,3 +2,5 @@ pub mod Draws
 pub mod Lanes
 pub mod Samples
 pub mod Candidates
+pub mod Kept
+pub mod Thinned

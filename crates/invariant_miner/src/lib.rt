@@ -1,10 +1,21 @@
-//! Clauses that every reachable state of a circuit may meet, taken from sample states.
+//! Clauses that every reachable state of a circuit may meet, taken from sample states, and the sets of
+//! them that every edge keeps.
 #![tactic(auto)]
 
+pub mod asked;
 pub mod candidates;
 mod draws;
+#[cfg(test)]
+mod kept_tests;
 mod lanes;
+mod next;
 mod rows;
 mod samples;
+pub mod set;
 #[cfg(test)]
 mod tests;
+pub mod thin;
+pub mod thinned;
+
+pub use set::InductiveSet;
+pub use thinned::Thinned;

@@ -1,0 +1,111 @@
+//! Thinning a list of clauses to those that are kept.
+
+ghost use Rattle.std.specs.Prelude.{◌≡◌, ◌+◌, ◌^◌, ◌<◌, ◌≤◌, [], length, map, slice_index_or, IfOk};
+ghost use Rattle.gate_graph.specs.Runs.{next_state};
+ghost use Rattle.std.specs.List.{filter};
+ghost use Rattle.lemma_checker.specs.Chains.{ReachesEmpty};
+ghost use Rattle.lemma_checker.specs.Checker.{link};
+ghost use Rattle.unroll_cnf.specs.Latches.{meets, AreOfLatches, weight};
+ghost use Rattle.unroll_cnf.specs.Queries.{keep_clauses};
+ghost use Rattle.unroll_cnf.specs.Runs.{IsKeepEdge};
+ghost use Rattle.unroll_cnf.specs.Meaning.{edges_of, HasSizes};
+ghost use Rattle.invariant_miner.specs.Thinned.{AskedIs, IsThinned, LeavesSet};
+
+use crate::asked::Asked;
+use crate::next::next_of;
+use crate::set::InductiveSet;
+use crate::thinned::Thinned;
+use clause_solver::answer::Solved;
+use clause_solver::solver::solve;
+use gate_graph::Circuit;
+use lemma_checker::answer::Satisfied;
+use std::alloc::{AllocError, Global};
+use std::vec::Vec;
+use unroll_cnf::{CircuitRun, LatchClause, keep_query, run_of};
+
+/// The state after the one edge of the run.
+fn after_edge(alloc: Global, circuit: &Circuit, run: &CircuitRun) -> Result<Vec<bool>, AllocError>
+    requires sizes { HasSizes circuit.now run.now }
+    requires one { length run.now.inputs.items ≡ 1 }
+    ensures { IfOk result (λ v. v.items ≡ next_state circuit.now run.now.start.items (slice_index_or (edges_of run.now) 0 [])) }
+{
+    let inputs = run.inputs[0].as_slice();
+    let next = next_of(alloc, circuit, run.start.as_slice(), inputs)?;
+    Ok(next)
+}
+
+/// The state after the edge that the values of the keep query stand for.
+fn left_state(
+    alloc: Global,
+    circuit: &Circuit,
+    set: &[LatchClause],
+    model: &Satisfied,
+) -> Result<Vec<bool>, AllocError>
+    requires of { AreOfLatches (length circuit.now.latches.items) set.now }
+    requires query { model.now.formula.clauses ≡ keep_clauses circuit.now set.now }
+    ensures { IfOk result (λ v. LeavesSet circuit.now set.now v.items) }
+{
+    let run = run_of(alloc, circuit, 1, model)?;
+    let next = after_edge(alloc, circuit, &run)?;
+    Ok(next)
+}
+
+/// Whether every edge keeps the set.
+fn ask(
+    alloc: Global,
+    circuit: &Circuit,
+    set: &[LatchClause],
+    budget: u32,
+) -> Result<Asked, AllocError>
+    requires some { 1 ≤ budget }
+    requires few { budget ≤ 200000 }
+    requires of { AreOfLatches (length circuit.now.latches.items) set.now }
+    requires small { weight set.now ≤ 2 ^ 28 }
+    ensures { IfOk result (AskedIs circuit.now set.now budget) }
+{
+    let query = keep_query(alloc, circuit, set)?;
+    match solve(alloc, query, budget)? {
+        Solved::Unsat(refutation) => Ok(Asked::Closed(refutation.chains())),
+        Solved::Spent(lemmas) => Ok(Asked::Spent(lemmas)),
+        Solved::Sat(model) => {
+            let next = left_state(alloc, circuit, set, &model)?;
+            Ok(Asked::Leaves(next))
+        }
+    }
+}
+
+/// Drops the clauses that the state doesn't meet.
+fn keep_met(clauses: &mut Vec<LatchClause>, state: &[bool])
+    ensures { clauses.new.items ≡ filter (meets state.now) clauses.old.items }
+{
+    clauses.retain(|clause| clause.meets(state));
+}
+
+/// The greatest closed set of clauses of the list, in its order, with the chains that show it closed.
+/// Where a query of the search takes more than `budget` lemmas, these lemmas.
+pub fn thin(
+    alloc: Global,
+    circuit: &Circuit,
+    list: Vec<LatchClause>,
+    budget: u32,
+) -> Result<Thinned, AllocError>
+    requires some { 1 ≤ budget }
+    requires few { budget ≤ 200000 }
+    requires of { AreOfLatches (length circuit.now.latches.items) list.items }
+    requires small { weight list.items ≤ 2 ^ 28 }
+    ensures { IfOk result (IsThinned circuit.now list.items budget) }
+{
+    let mut current = list;
+    loop {
+        match ask(alloc, circuit, current.as_slice(), budget)? {
+            Asked::Closed(chains) => {
+                return Ok(Thinned::Kept(InductiveSet {
+                    clauses: current,
+                    chains,
+                }));
+            }
+            Asked::Spent(lemmas) => return Ok(Thinned::MiningSpent(lemmas)),
+            Asked::Leaves(state) => keep_met(&mut current, state.as_slice()),
+        }
+    }
+}

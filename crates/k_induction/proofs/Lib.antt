@@ -1,0 +1,3 @@
+pub mod InductionLemmas
+pub mod VerdictLemmas
+pub mod CountLemmas

@@ -1,0 +1,3 @@
+pub mod Safety
+pub mod Chains
+pub mod Verdicts

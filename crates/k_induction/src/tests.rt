@@ -1,0 +1,356 @@
+//! Small circuits, each verdict worked out by hand.
+
+ghost use Rattle.std.specs.Prelude.{◌≡◌, ◌+◌, ◌*◌, ◌^◌, ◌<◌, ◌≤◌, [], ◌∷◌, length, slice_get, All, IfOk, IfSome, IsTrue};
+ghost use Rattle.gate_graph.specs.Gates.{latch_count, input_count};
+ghost use Rattle.gate_graph.specs.Latches.{StartsAtZero};
+ghost use Rattle.invariant_miner.specs.Thinned.{IsAskable};
+
+use crate::decide::decide;
+use crate::query::Query;
+use crate::verdict::Verdict;
+use gate_graph::{Circuit, Graph, Latch, Node, Start, Wire};
+use invariant_miner::thin::thin;
+use invariant_miner::{InductiveSet, Thinned};
+use std::alloc::{AllocError, Global};
+use std::test::Fail;
+use std::vec::Vec;
+use unroll_cnf::{LatchClause, LatchLiteral};
+
+/// A circuit: start and next wire of each latch, how many inputs, the wires of each gate, and the
+/// bad wire. Node 0 is constant, then come the latches, the inputs and the gates. Wires are twice a
+/// node's number, plus 1 where they are inverted.
+#[derive(Clone, Copy, Drop)]
+struct Parts {
+    latches: &'static [(Start, u32)],
+    inputs: u32,
+    gates: &'static [(u32, u32)],
+    bad: u32,
+}
+
+/// 1 for a latch, else 0.
+fn latch_weight(node: Node) -> u32
+    ensures value { result ≡ latch_count (node ∷ []) }
+    ensures small { result ≤ 1 }
+{
+    match node {
+        Node::Latch(_) => 1,
+        Node::Zero | Node::Input(_) | Node::And(_, _) => 0,
+    }
+}
+
+/// 1 for an input, else 0.
+fn input_weight(node: Node) -> u32
+    ensures value { result ≡ input_count (node ∷ []) }
+    ensures small { result ≤ 1 }
+{
+    match node {
+        Node::Input(_) => 1,
+        Node::Zero | Node::Latch(_) | Node::And(_, _) => 0,
+    }
+}
+
+/// How many latches the graph has.
+fn count_latches(graph: &Graph) -> u32
+    ensures { result ≡ latch_count graph.now }
+{
+    let mut total = 0;
+    for i in 0..graph.size() {
+        total += latch_weight(graph.node(i));
+    }
+    total
+}
+
+/// How many inputs the graph has.
+fn count_inputs(graph: &Graph) -> u32
+    ensures { result ≡ input_count graph.now }
+{
+    let mut total = 0;
+    for i in 0..graph.size() {
+        total += input_weight(graph.node(i));
+    }
+    total
+}
+
+/// The graph of the parts, as far as their wires are of it.
+fn graph_of(alloc: Global, parts: Parts) -> Result<Graph, AllocError> {
+    let mut graph = Graph::new(alloc)?;
+    for _ in 0..parts.latches.len() {
+        if graph.size() < 1000 {
+            graph.latch()?;
+        }
+    }
+    for _ in 0..parts.inputs {
+        if graph.size() < 1000 {
+            graph.input()?;
+        }
+    }
+    for (a, b) in parts.gates {
+        let size = graph.size();
+        if size < 1000 && *a < 2 * size && *b < 2 * size {
+            graph.and(Wire(*a), Wire(*b))?;
+        }
+    }
+    Ok(graph)
+}
+
+/// The latches of the parts.
+fn latches_of(alloc: Global, parts: Parts) -> Result<Vec<Latch>, AllocError> {
+    let mut latches = Vec::new(alloc);
+    for (start, next) in parts.latches {
+        latches.push(Latch {
+            start: *start,
+            next: Wire(*next),
+        })?;
+    }
+    Ok(latches)
+}
+
+/// Whether the latches' next wires are of a graph of this size.
+fn all_within(latches: &[Latch], size: u32) -> bool
+    ensures { IsTrue result → All (λ l. l.next.0 < 2 * size) latches.now }
+{
+    latches
+        .iter()
+        .all(|latch| u64::from(latch.next.0) < 2 * u64::from(size))
+}
+
+/// Latch 0, if there is one.
+fn first_of(latches: &[Latch]) -> Option<Latch>
+    ensures { result ≡ slice_get latches.now 0 }
+{
+    latches.first().copied()
+}
+
+/// Whether latch 0 is there and starts at 0.
+fn starts_at_zero(latches: &[Latch]) -> bool
+    ensures { IsTrue result → StartsAtZero latches.now }
+{
+    match first_of(latches) {
+        Some(latch) => match latch.start {
+            Start::Zero => true,
+            Start::One | Start::Free => false,
+        },
+        None => false,
+    }
+}
+
+/// The circuit of the parts, if they fit.
+fn circuit_of(alloc: Global, parts: Parts) -> Result<Option<Circuit>, AllocError> {
+    let graph = graph_of(alloc, parts)?;
+    let latches = latches_of(alloc, parts)?;
+    let size = graph.size();
+    let inputs = count_inputs(&graph);
+    if size > 1000 || parts.bad >= 2 * size {
+        return Ok(None);
+    }
+    if count_latches(&graph) as usize != latches.len() {
+        return Ok(None);
+    }
+    if !all_within(latches.as_slice(), size) {
+        return Ok(None);
+    }
+    if !starts_at_zero(latches.as_slice()) {
+        return Ok(None);
+    }
+    Ok(Some(Circuit {
+        graph,
+        latches,
+        inputs,
+        bad: Wire(parts.bad),
+        address_first: 0,
+        address_bits: 0,
+        addresses: Vec::new(alloc),
+        control: Vec::new(alloc),
+    }))
+}
+
+/// What a verdict should be: safe with this k, a bad or loose run of so many edges, or a budget
+/// spent on this query of so many edges.
+#[derive(Clone, Copy, PartialEq, Eq, Debug, Drop)]
+enum Expected {
+    Safe(u32),
+    Bad(usize),
+    Loose(usize),
+    Spent(Query, u32),
+}
+
+/// What the verdict is.
+fn outcome(verdict: &Verdict) -> Expected {
+    match verdict {
+        Verdict::Safe(safe) => Expected::Safe(safe.k),
+        Verdict::Bad(bad) => Expected::Bad(bad.run.inputs.len()),
+        Verdict::Loose(loose) => Expected::Loose(loose.run.inputs.len()),
+        Verdict::BudgetSpent { query, k, .. } => Expected::Spent(*query, *k),
+    }
+}
+
+/// A circuit, a bound, a budget, and the verdict with no set.
+#[derive(Clone, Copy, Drop)]
+struct Case {
+    parts: Parts,
+    bound: u32,
+    budget: u32,
+    expected: Expected,
+}
+
+const fn row(parts: Parts, bound: u32, budget: u32, expected: Expected) -> Case {
+    Case {
+        parts,
+        bound,
+        budget,
+        expected,
+    }
+}
+
+/// The verdict on the case with no set, if its parts fit.
+fn verdict_of(alloc: Global, case: Case) -> Result<Option<Verdict>, AllocError> {
+    let Some(circuit) = circuit_of(alloc, case.parts)? else {
+        return Ok(None);
+    };
+    let Case { bound, budget, .. } = case;
+    if bound == 0 || bound > 32 || budget == 0 || budget > 200_000 {
+        return Ok(None);
+    }
+    let set = InductiveSet::empty(alloc);
+    let verdict = decide(alloc, circuit, set, bound, budget)?;
+    Ok(Some(verdict))
+}
+
+/// Nothing is ever bad.
+static NEVER: Parts = Parts {
+    latches: &[(Start::Zero, 1)],
+    inputs: 0,
+    gates: &[],
+    bad: 0,
+};
+
+/// Latch 1 takes the input at an edge with latch 0, and is bad.
+static REMEMBERS: Parts = Parts {
+    latches: &[(Start::Zero, 1), (Start::Zero, 8)],
+    inputs: 1,
+    gates: &[(2, 6)],
+    bad: 4,
+};
+
+/// Zeros are shifted through three latches, the last of which is bad.
+static SHIFTS: Parts = Parts {
+    latches: &[
+        (Start::Zero, 1),
+        (Start::Zero, 0),
+        (Start::Zero, 4),
+        (Start::Zero, 6),
+    ],
+    inputs: 0,
+    gates: &[],
+    bad: 8,
+};
+
+/// A latch that starts with either value, and is bad.
+static EITHER: Parts = Parts {
+    latches: &[(Start::Zero, 1), (Start::Free, 4)],
+    inputs: 0,
+    gates: &[],
+    bad: 4,
+};
+
+/// A latch that starts at 1 and stays; it is bad where it is 0.
+static STAYS: Parts = Parts {
+    latches: &[(Start::Zero, 1), (Start::One, 4)],
+    inputs: 0,
+    gates: &[],
+    bad: 5,
+};
+
+/// A latch that turns at each edge, and is bad where it is 1.
+static TURNS: Parts = Parts {
+    latches: &[(Start::Zero, 1), (Start::Zero, 5)],
+    inputs: 0,
+    gates: &[],
+    bad: 4,
+};
+
+/// Two latches count from 0, and are bad at 3.
+static COUNTS: Parts = Parts {
+    latches: &[(Start::Zero, 1), (Start::Zero, 5), (Start::Zero, 13)],
+    inputs: 0,
+    gates: &[(4, 7), (5, 6), (9, 11), (4, 6)],
+    bad: 14,
+};
+
+/// Two latches take one input where another is 1; a third input asks whether they differ, which is
+/// bad.
+static EQUAL: Parts = Parts {
+    latches: &[(Start::Zero, 1), (Start::Zero, 19), (Start::Zero, 23)],
+    inputs: 3,
+    gates: &[
+        (10, 8),
+        (11, 4),
+        (15, 17),
+        (11, 6),
+        (15, 21),
+        (4, 7),
+        (5, 6),
+        (25, 27),
+        (29, 12),
+    ],
+    bad: 30,
+};
+
+/// A latch that stays 0; an input asks whether it is 1, which is bad.
+static STUCK: Parts = Parts {
+    latches: &[(Start::Zero, 1), (Start::Zero, 4)],
+    inputs: 1,
+    gates: &[(4, 6)],
+    bad: 8,
+};
+
+/// The parity of three inputs, counted from either end; it is bad where the two differ.
+static PARITY: Parts = Parts {
+    latches: &[(Start::Zero, 1)],
+    inputs: 3,
+    gates: &[
+        (4, 7),
+        (5, 6),
+        (11, 13),
+        (15, 9),
+        (14, 8),
+        (17, 19),
+        (6, 9),
+        (7, 8),
+        (23, 25),
+        (4, 26),
+        (5, 27),
+        (29, 31),
+        (21, 32),
+        (20, 33),
+        (35, 37),
+    ],
+    bad: 39,
+};
+
+#[test]
+fn verdicts_without_a_set(rt: HostRuntime) -> Result<(), Fail> {
+    let cases = [
+        row(NEVER, 1, 100, Expected::Safe(1)),
+        row(REMEMBERS, 3, 100, Expected::Bad(3)),
+        row(REMEMBERS, 32, 100, Expected::Bad(3)),
+        row(REMEMBERS, 2, 100, Expected::Loose(3)),
+        row(SHIFTS, 5, 100, Expected::Safe(3)),
+        row(SHIFTS, 2, 100, Expected::Loose(3)),
+        row(EITHER, 4, 100, Expected::Bad(1)),
+        row(STAYS, 1, 100, Expected::Safe(1)),
+        row(TURNS, 4, 100, Expected::Bad(2)),
+        row(COUNTS, 8, 100, Expected::Bad(4)),
+        row(COUNTS, 3, 100, Expected::Loose(4)),
+        row(EQUAL, 4, 1000, Expected::Loose(5)),
+        row(STUCK, 2, 100, Expected::Loose(3)),
+        row(PARITY, 1, 1000, Expected::Safe(1)),
+        row(PARITY, 2, 1, Expected::Spent(Query::Base, 1)),
+    ];
+    for case in cases {
+        let verdict = verdict_of(rt.alloc(), case)?;
+        let found = verdict.as_ref().map(outcome);
+        assert_eq!(rt; found, Some(case.expected));
+    }
+    Ok(())
+}
