@@ -1,5 +1,5 @@
 -- What the calls and the end of a command tell, clause by clause.
-use Rattle.std.proofs.Common.{◌≡◌, ◌≢◌, ◌↔◌, ℕ, Bool, true, false, is_some, slice_index_or, codes, List, [], ◌∷◌, ◌++◌, length, Option, Some, None, Result, Ok, Err, IfSome, IsSome, IsSomeAnd, ◌⊎◌, inl, inr, refl, sym, ap, subst, ◌∙◌}
+use Rattle.std.proofs.Common.{◌≡◌, ◌≢◌, ◌↔◌, ℕ, Bool, true, false, is_some, slice_index_or, codes, List, [], ◌∷◌, ◌++◌, length, Option, Some, None, Result, Ok, Err, IfSome, IsSome, IsSomeAnd, ◌⊎◌, inl, inr, refl, sym, ap, subst, arith, ◌∙◌}
 use Rattle.tool_edge.specs.Causes.{Rose}
 use Rattle.tool_edge.specs.Files.{Files}
 use Rattle.tool_edge.specs.Calls.{after_calls}
@@ -13,21 +13,26 @@ use Rattle.prove_top.specs.declared.gather.Kind.{Kind}
 use Rattle.prove_top.specs.declared.gather.Shortfall.{Shortfall}
 use Rattle.prove_top.specs.declared.gather.Shortfall.TheVariants.{Missing, Long}
 use Rattle.prove_top.specs.declared.report.Report.{Report}
-use Rattle.prove_top.specs.declared.report.Report.TheVariants.{Usage, Refused, Refuted, Simulated, FaultRead}
-use Rattle.prove_top.specs.declared.report.Refusal.TheVariants.{NotYet}
+use Rattle.prove_top.specs.declared.report.Report.TheVariants.{Usage, Refused, WrongTrace, Refuted, Simulated, Agrees, Differs, FaultRead}
+use Rattle.prove_top.specs.declared.report.Refusal.TheVariants.{RdlSize, VlogSize, PortSize, TraceSize, NoFile, NotYet}
 use Rattle.prove_top.specs.declared.report.Status.{Status}
 use Rattle.prove_top.specs.declared.report.Status.TheVariants as status
-use Rattle.prove_top.specs.declared.words.Proving.{Proving}
-use Rattle.prove_top.specs.Answer.{TellsFailed, names_asked, report_of, command_report, proving_report, command_answer, files_report, short_report, answer_to, block_report, block_of, run_report, difference_report, wanted_of, name_of}
-use Rattle.prove_top.specs.Clauses.{Added, WholeButTheLast, NoStores, IsFaultOrMemory, PutsPart, PutsFault, PutsPartThenMemory, asked_block, command_block, texts_block, with_block, SampledDiffers, SampledAgrees}
-use Rattle.prove_top.specs.Ends.{Ends, EndsPut, Completes, FailsPut, WantsMemory, MayReport, Ran, UnlessFailed}
+use Rattle.prove_top.specs.declared.words.Task.{Task}
+use Rattle.prove_top.specs.declared.words.Work.{Work}
+use Rattle.prove_top.specs.declared.words.Work.TheVariants as work
+use Rattle.trace_replay.specs.declared.fault.TraceCode.TheVariants as code
+use Rattle.trace_replay.specs.Trace.{trace_difference}
+use Rattle.trace_replay.proofs.TraceTheorem.{no-line, no-name, no-illegal, same_trace}
+use Rattle.prove_top.specs.Answer.{TellsFailed, Answers, CommandAnswer, AskedAnswer, FilesAnswer, WorkAnswer, ReplayAnswer, Replays, ReplaysTo, names_asked, short_report, sample_report, block_of, run_report, difference_report, text_at, wanted_of, name_of}
+use Rattle.prove_top.specs.Clauses.{Added, WholeButTheLast, NoStores, IsFaultOrMemory, PutsPart, PutsFault, PutsPartThenMemory, with_block, sample_block, replay_block, of_texts, of_task, SampledDiffers, SampledAgrees, ReplayAgrees, ReplayDiffers}
+use Rattle.prove_top.specs.Ends.{Ends, EndsPut, Completes, FailsPut, WantsMemory, MayReport, PutsAnswer, Ran, Reported, Wanting, UnlessFailed}
 use Rattle.prove_top.specs.Gather.{gathered}
 use Rattle.prove_top.specs.Reads.{AreReads, GoesOn, ReadsOnly, failed_of}
 use Rattle.prove_top.specs.Report.{status_of, text_of}
 use Rattle.prove_top.specs.Sampled.{sampled}
 use Rattle.std.specs.Option.{option_and_then}
 use Rattle.prove_top.specs.declared.words.Command.{Command}
-use Rattle.prove_top.specs.Words.{command_of, proving_of, proving_asked}
+use Rattle.prove_top.specs.Words.{command_of, task_of}
 use Rattle.prove_top.proofs.EndLemmas.{put-part, part-whole, unless-map}
 
 module _ (names : List (List ℕ)) (before after : Option (List DepotCall)) (P : List DepotCall → Type 0) where
@@ -71,6 +76,9 @@ tells-fault Usage name failed is tells = cc
 tells-fault (Refused why file) name failed is tells = cc
 tells-fault (Refuted edge what trace) name failed is tells = cc
 tells-fault Simulated name failed is tells = cc
+tells-fault (WrongTrace why line file) name failed is tells = cc
+tells-fault (Agrees edges) name failed is tells = cc
+tells-fault (Differs edge what) name failed is tells = cc
 
 no-fault : (report : Report) (failed : Option (List ℕ)) (Q : Type 0) → failed ≡ None → TellsFailed report failed → status_of report ≡ status.Fault → Q
 no-fault (FaultRead file) failed Q is tells said = cc
@@ -78,6 +86,9 @@ no-fault Usage failed Q is tells said = cc
 no-fault (Refused why file) failed Q is tells said = cc
 no-fault (Refuted edge what trace) failed Q is tells said = cc
 no-fault Simulated failed Q is tells said = cc
+no-fault (WrongTrace why line file) failed Q is tells said = cc
+no-fault (Agrees edges) failed Q is tells said = cc
+no-fault (Differs edge what) failed Q is tells said = cc
 
 never-memory : (report : Report) (Q : Type 0) → status_of report ≡ status.NoMemory → Q
 never-memory (FaultRead file) Q said = cc
@@ -85,6 +96,9 @@ never-memory Usage Q said = cc
 never-memory (Refused why file) Q said = cc
 never-memory (Refuted edge what trace) Q said = cc
 never-memory Simulated Q said = cc
+never-memory (WrongTrace why line file) Q said = cc
+never-memory (Agrees edges) Q said = cc
+never-memory (Differs edge what) Q said = cc
 
 module _ (told : Option Files) (words : List (List ℕ)) (old new : Option (List ℕ)) (before now : ℕ) (ended : Status) (calls : List DepotCall) where
   last-of : (report : Report) (name : List ℕ) → report ≡ FaultRead name → Ends report old new before now ended → IsFaultOrMemory ended
@@ -93,7 +107,8 @@ module _ (told : Option Files) (words : List (List ℕ)) (old new : Option (List
   last-of report name is (inr (inr wants)) = inr wants.said
 
   pub last_failed : Ran told words old new before now ended calls → (name : List ℕ) → failed_of calls ≡ Some name → IsFaultOrMemory ended
-  last_failed ran name is = last-of ran.report name (tells-fault ran.report name (failed_of calls) is ran.may.failure) ran.ends
+  last_failed (inl ran) name is = last-of ran.report name (tells-fault ran.report name (failed_of calls) is ran.may.failure) ran.ends
+  last_failed (inr wants) name is = inr wants.said
 
   fault-of : (report : Report) (name : List ℕ) → report ≡ FaultRead name → Ends report old new before now ended → ended ≡ status.Fault → PutsFault name old new before now
   fault-of report name is (inl done) said = inl (done.written ∙ ap (λ r. after_put old (text_of r)) is)
@@ -102,7 +117,8 @@ module _ (told : Option Files) (words : List (List ℕ)) (old new : Option (List
   fault-of report name is (inr (inr wants)) said = let no_way : status.NoMemory ≡ status.Fault = sym wants.said ∙ said in cc
 
   pub fault_report : Ran told words old new before now ended calls → (name : List ℕ) → failed_of calls ≡ Some name → ended ≡ status.Fault → PutsFault name old new before now
-  fault_report ran name is said = fault-of ran.report name (tells-fault ran.report name (failed_of calls) is ran.may.failure) ran.ends said
+  fault_report (inl ran) name is said = fault-of ran.report name (tells-fault ran.report name (failed_of calls) is ran.may.failure) ran.ends said
+  fault_report (inr wants) name is said = let no_way : status.NoMemory ≡ status.Fault = sym wants.said ∙ said in cc
 
   without-of : (report : Report) → TellsFailed report (failed_of calls) → failed_of calls ≡ None → Ends report old new before now ended → ended ≡ status.Fault → Rose before now
   without-of report tells none (inl done) said = no-fault report (failed_of calls) (Rose before now) none tells (sym done.said ∙ said)
@@ -110,7 +126,8 @@ module _ (told : Option Files) (words : List (List ℕ)) (old new : Option (List
   without-of report tells none (inr (inr wants)) said = let no_way : status.NoMemory ≡ status.Fault = sym wants.said ∙ said in cc
 
   pub fault_without : Ran told words old new before now ended calls → failed_of calls ≡ None → ended ≡ status.Fault → Rose before now
-  fault_without ran none said = without-of ran.report ran.may.failure none ran.ends said
+  fault_without (inl ran) none said = without-of ran.report ran.may.failure none ran.ends said
+  fault_without (inr wants) none said = let no_way : status.NoMemory ≡ status.Fault = sym wants.said ∙ said in cc
 
   prefix-of : (report : Report) → MayReport told words (failed_of calls) report → Ends report old new before now ended → ended ≡ status.Fault → PutsPart told words (failed_of calls) old new
   prefix-of report may (inl done) said = record { report = report; may = may; part = part-whole old (text_of report) new done.written }
@@ -118,144 +135,154 @@ module _ (told : Option Files) (words : List (List ℕ)) (old new : Option (List
   prefix-of report may (inr (inr wants)) said = let no_way : status.NoMemory ≡ status.Fault = sym wants.said ∙ said in cc
 
   pub report_prefix : Ran told words old new before now ended calls → ended ≡ status.Fault → PutsPart told words (failed_of calls) old new
-  report_prefix ran said = prefix-of ran.report ran.may ran.ends said
+  report_prefix (inl ran) said = prefix-of ran.report ran.may ran.ends said
+  report_prefix (inr wants) said = let no_way : status.NoMemory ≡ status.Fault = sym wants.said ∙ said in cc
 
   memory-of : (report : Report) → MayReport told words (failed_of calls) report → Ends report old new before now ended → ended ≡ status.NoMemory → PutsPartThenMemory told words (failed_of calls) old new
   memory-of report may (inl done) said = never-memory report (PutsPartThenMemory told words (failed_of calls) old new) (sym done.said ∙ said)
   memory-of report may (inr (inl fails)) said = let no_way : status.Fault ≡ status.NoMemory = sym fails.said ∙ said in cc
-  memory-of report may (inr (inr wants)) said = record { middle = wants.written.0; first = record { report = report; may = may; part = wants.written.1 }; last = wants.written.2 }
+  memory-of report may (inr (inr wants)) said = record { middle = wants.written.0; first = inl (record { report = report; may = may; part = wants.written.1 }); last = wants.written.2 }
 
   pub no_memory_bytes : Ran told words old new before now ended calls → ended ≡ status.NoMemory → PutsPartThenMemory told words (failed_of calls) old new
-  no_memory_bytes ran said = memory-of ran.report ran.may ran.ends said
+  no_memory_bytes (inl ran) said = memory-of ran.report ran.may ran.ends said
+  no_memory_bytes (inr wants) said = record { middle = old; first = inr refl; last = wants.written }
 
--- the status of a report, by the block that was asked for and its sampled run
-abbrev Statuses : Report → Option (Block × ℕ) → Type 0
-Statuses report asked =
-    ((status_of report ≡ status.No) ↔ IsSomeAnd asked (λ a. IsSome (sampled a.0 a.1)))
-    × ((status_of report ≡ status.Unknown) ↔ IsSomeAnd asked (λ a. sampled a.0 a.1 ≡ None))
-    × ((status_of report ≡ status.Refused) ↔ (asked ≡ None))
+-- the status of a report, by the block and the seed, or the block and the trace text, that were asked for
+record Says (report : Report) (asked : Option (Block × ℕ)) (replayed : Option (Block × List ℕ)) : Type 0 where
+  unknown : (status_of report ≡ status.Unknown) ↔ IsSomeAnd asked (λ a. sampled a.0 a.1 ≡ None)
+  agrees : (status_of report ≡ status.Yes) ↔ IsSomeAnd replayed (λ a. (count : ℕ) × ReplaysTo a.0 a.1 None count)
+  differs : (status_of report ≡ status.No)
+      ↔ (IsSomeAnd asked (λ a. IsSome (sampled a.0 a.1)) ⊎ IsSomeAnd replayed (λ a. (first : ℕ × Difference) × ((count : ℕ) × ReplaysTo a.0 a.1 (Some first) count)))
 
-refused-statuses : (report : Report) → status_of report ≡ status.Refused → Statuses report None
-refused-statuses report is = (
-  (λ h. let no_way : status.Refused ≡ status.No = sym is ∙ h in cc, λ h. absurd h),
-  (λ h. let no_way : status.Refused ≡ status.Unknown = sym is ∙ h in cc, λ h. absurd h),
-  (λ h. refl, λ h. is),
-)
+neither-of : {P Q : Type 0} → (P → ⊥) → (Q → ⊥) → P ↔ Q
+neither-of p q = (λ h. absurd (p h), λ h. absurd (q h))
 
-difference-statuses : (block : Block) (seed : ℕ) (first : Option (ℕ × Difference)) → first ≡ sampled block seed → Statuses (difference_report block seed first) (Some (block, seed))
-difference-statuses block seed None is = (
-  (λ h. cc, λ h. let no_way : is_some (sampled block seed) ≡ false = ap is_some (sym is) in cc),
-  (λ h. sym is, λ h. refl),
-  (λ h. cc, λ h. cc),
-)
-difference-statuses block seed (Some first) is = (
-  (λ h. ap is_some (sym is), λ h. refl),
-  (λ h. cc, λ h. let no_way : ◌≡◌ {A = Option (ℕ × Difference)} (Some first) None = is ∙ h in cc),
-  (λ h. cc, λ h. cc),
-)
+either-none : {A B : Type 0} → (A → ⊥) → (B → ⊥) → A ⊎ B → ⊥
+either-none a b (inl h) = a h
+either-none a b (inr h) = b h
 
-run-statuses : (block : Block) (seed : ℕ) → Statuses (run_report block seed) (Some (block, seed))
+-- a report under another status says nothing of a block
+quiet : (report : Report) → (status_of report ≡ status.Refused) ⊎ (status_of report ≡ status.Usage) → Says report None None
+quiet report (inl is) = record {
+  unknown = neither-of (λ h. let no_way : status.Refused ≡ status.Unknown = sym is ∙ h in cc) (λ h. h);
+  agrees = neither-of (λ h. let no_way : status.Refused ≡ status.Yes = sym is ∙ h in cc) (λ h. h);
+  differs = neither-of (λ h. let no_way : status.Refused ≡ status.No = sym is ∙ h in cc) (either-none (λ h. h) (λ h. h));
+}
+quiet report (inr is) = record {
+  unknown = neither-of (λ h. let no_way : status.Usage ≡ status.Unknown = sym is ∙ h in cc) (λ h. h);
+  agrees = neither-of (λ h. let no_way : status.Usage ≡ status.Yes = sym is ∙ h in cc) (λ h. h);
+  differs = neither-of (λ h. let no_way : status.Usage ≡ status.No = sym is ∙ h in cc) (either-none (λ h. h) (λ h. h));
+}
+
+difference-says : (block : Block) (seed : ℕ) (first : Option (ℕ × Difference)) → first ≡ sampled block seed → Says (difference_report block seed first) (Some (block, seed)) None
+difference-says block seed None is = record {
+  unknown = (λ h. sym is, λ h. refl);
+  agrees = neither-of (λ h. cc) (λ h. h);
+  differs = neither-of (λ h. cc) (either-none (λ h. let no_way : is_some (sampled block seed) ≡ false = ap is_some (sym is) in cc) (λ h. h));
+}
+difference-says block seed (Some first) is = record {
+  unknown = neither-of (λ h. cc) (λ h. let no_way : ◌≡◌ {A = Option (ℕ × Difference)} (Some first) None = is ∙ h in cc);
+  agrees = neither-of (λ h. cc) (λ h. h);
+  differs = (λ h. inl (ap is_some (sym is)), λ h. refl);
+}
+
+run-says : (block : Block) (seed : ℕ) → Says (run_report block seed) (Some (block, seed)) None
 unfolding run_report
-run-statuses block seed = difference-statuses block seed (sampled block seed) refl
+run-says block seed = difference-says block seed (sampled block seed) refl
 
-block-statuses : (command : Proving) (block : Result Block Kind) → Statuses (block_report command block) (with_block command.seed block)
-block-statuses command (Ok block) = run-statuses block command.seed
-block-statuses command (Err kind) = refused-statuses (Refused NotYet (name_of command kind)) refl
+sample-says : (task : Task) (seed : ℕ) (block : Result Block Kind) → Says (sample_report task seed block) (with_block seed block) None
+sample-says task seed (Ok block) = run-says block seed
+sample-says task seed (Err kind) = quiet (Refused NotYet (name_of task kind)) (inl refl)
 
-answer-statuses : (command : Proving) (rdl ports verilog : List ℕ) → Statuses (answer_to command rdl ports verilog) (with_block command.seed (block_of rdl ports verilog))
-unfolding answer_to
-answer-statuses command rdl ports verilog = block-statuses command (block_of rdl ports verilog)
+-- the run of a trace text has one first difference
+one-run : (block : Block) (text : List ℕ) (a b : Option (ℕ × Difference)) (m n : ℕ) → ReplaysTo block text a m → ReplaysTo block text b n → a ≡ b
+one-run block text a b m n one two =
+    let same = same_trace block text one.start two.start one.edges two.edges one.legal.sizes two.legal.sizes one.is two.is in
+    sym one.first ∙ ap (λ s. trace_difference block s one.edges) same.0 ∙ ap (λ es. trace_difference block two.start es) same.1 ∙ two.first
+
+some-none : (first : ℕ × Difference) → ◌≡◌ {A = Option (ℕ × Difference)} (Some first) None → ⊥
+some-none first same = cc
+
+wrong-says : (block : Block) (text : List ℕ) (report : Report) → status_of report ≡ status.Refused → ((found : Option (ℕ × Difference)) (count : ℕ) → ReplaysTo block text found count → ⊥)
+    → Says report None (Some (block, text))
+wrong-says block text report is none = record {
+  unknown = neither-of (λ h. let no_way : status.Refused ≡ status.Unknown = sym is ∙ h in cc) (λ h. h);
+  agrees = neither-of (λ h. let no_way : status.Refused ≡ status.Yes = sym is ∙ h in cc) (λ h. none None h.0 h.1);
+  differs = neither-of (λ h. let no_way : status.Refused ≡ status.No = sym is ∙ h in cc) (either-none (λ h. h) (λ h. none (Some h.0) h.1.0 h.1.1));
+}
+
+replays-says : (block : Block) (name text : List ℕ) (report : Report) → Replays block name text report → Says report None (Some (block, text))
+replays-says block name text (Agrees edges) h = record {
+  unknown = neither-of (λ e. cc) (λ e. e);
+  agrees = (λ e. (edges, h), λ e. refl);
+  differs = neither-of (λ e. cc) (either-none (λ e. e) (λ e. some-none e.0 (one-run block text (Some e.0) None e.1.0 edges e.1.1 h)));
+}
+replays-says block name text (Differs edge what) h = record {
+  unknown = neither-of (λ e. cc) (λ e. e);
+  agrees = neither-of (λ e. cc) (λ e. some-none (edge, what) (one-run block text (Some (edge, what)) None h.0 e.0 h.1 e.1));
+  differs = (λ e. inr ((edge, what), h), λ e. refl);
+}
+replays-says block name text (WrongTrace code.TraceLine line file) h =
+    wrong-says block text (WrongTrace code.TraceLine line file) refl (λ found count to. no-line block text to.start to.edges to.legal.sizes to.is line h.2)
+replays-says block name text (WrongTrace code.TraceName line file) h =
+    wrong-says block text (WrongTrace code.TraceName line file) refl (λ found count to. no-name block text to.start to.edges to.legal.sizes to.is line h.2)
+replays-says block name text (WrongTrace code.TraceIllegal line file) h =
+    wrong-says block text (WrongTrace code.TraceIllegal line file) refl (λ found count to. no-illegal block text to.start to.edges to.legal to.is line h.2)
+replays-says block name text (WrongTrace code.TraceSize line file) h = absurd h
+replays-says block name text (Refused TraceSize file) h = wrong-says block text (Refused TraceSize file) refl (λ found count to. let short = to.short in absurd (omega (arith, short, h.1)))
+replays-says block name text (Refused RdlSize file) h = absurd h
+replays-says block name text (Refused VlogSize file) h = absurd h
+replays-says block name text (Refused PortSize file) h = absurd h
+replays-says block name text (Refused NoFile file) h = absurd h
+replays-says block name text (Refused NotYet file) h = absurd h
+replays-says block name text Usage h = absurd h
+replays-says block name text (Refuted edge what trace) h = absurd h
+replays-says block name text Simulated h = absurd h
+replays-says block name text (FaultRead file) h = absurd h
+
+says-as : (report due : Report) (asked : Option (Block × ℕ)) (replayed : Option (Block × List ℕ)) → report ≡ due → Says due asked replayed → Says report asked replayed
+says-as report due asked replayed is h = let P : Report → Type 0 = λ r. Says r asked replayed in subst P (sym is) h
+
+replay-says : (task : Task) (trace text : List ℕ) (block : Result Block Kind) (report : Report) → ReplayAnswer task trace text block report → Says report None (with_block text block)
+replay-says task trace text (Ok block) report h = replays-says block trace text report h
+replay-says task trace text (Err kind) report h = says-as report (Refused NotYet (name_of task kind)) None None h (quiet (Refused NotYet (name_of task kind)) (inl refl))
+
+work-says : (task : Task) (texts : List (List ℕ)) (does : Work) (report : Report) → WorkAnswer task texts does report → Says report (sample_block does texts) (replay_block does texts)
+work-says task texts (work.Sample seed) report h = says-as report _ _ _ h (sample-says task seed (block_of (text_at texts 0) (text_at texts 1) (text_at texts 2)))
+work-says task texts (work.Replay trace) report h = replay-says task trace (text_at texts 0) (block_of (text_at texts 1) (text_at texts 2) (text_at texts 3)) report h
 
 short-status : (short : Shortfall) → status_of (short_report short) ≡ status.Refused
 short-status (Missing name) = refl
 short-status (Long kind name) = refl
 
-files-statuses : (command : Proving) (files : Result (List (List ℕ)) Shortfall) → Statuses (files_report command files) (texts_block command files)
-files-statuses command (Err short) = refused-statuses (short_report short) (short-status short)
-files-statuses command (Ok texts) = answer-statuses command _ _ _
+files-says : (task : Task) (files : Result (List (List ℕ)) Shortfall) (report : Report) → FilesAnswer task files report → Says report (of_texts sample_block task files) (of_texts replay_block task files)
+files-says task (Err short) report h = says-as report (short_report short) None None h (quiet (short_report short) (inl (short-status short)))
+files-says task (Ok texts) report h = work-says task texts task.work report h
 
-proving-statuses : (files : Files) (proving : Option Proving) → Statuses (proving_report files proving) (command_block files proving)
-proving-statuses files None = refused-statuses (proving_report files None) refl
-proving-statuses files (Some proving) = files-statuses proving (gathered files (wanted_of proving))
+asked-says : (files : Files) (task : Option Task) (report : Report) → AskedAnswer files task report → Says report (of_task sample_block files task) (of_task replay_block files task)
+asked-says files None report h = says-as report (Refused NotYet (codes "words")) None None h (quiet (Refused NotYet (codes "words")) (inl refl))
+asked-says files (Some task) report h = files-says task (gathered files (wanted_of task)) report h
 
-differs-command : (files : Files) (command : Option Command) → (status_of (command_report files command) ≡ status.No) ↔ IsSomeAnd (command_block files (option_and_then proving_of command)) (λ a. IsSome (sampled a.0 a.1))
-differs-command files None = (λ h. cc, λ h. absurd h)
-differs-command files (Some command) = (proving-statuses files (proving_of command)).0
+command-says : (files : Files) (command : Option Command) (report : Report) → CommandAnswer files command report
+    → Says report (of_task sample_block files (option_and_then task_of command)) (of_task replay_block files (option_and_then task_of command))
+command-says files None report h = says-as report Usage None None h (quiet Usage (inr refl))
+command-says files (Some command) report h = asked-says files (task_of command) report h
 
-agrees-command : (files : Files) (command : Option Command) → (status_of (command_report files command) ≡ status.Unknown) ↔ IsSomeAnd (command_block files (option_and_then proving_of command)) (λ a. sampled a.0 a.1 ≡ None)
-agrees-command files None = (λ h. cc, λ h. absurd h)
-agrees-command files (Some command) = (proving-statuses files (proving_of command)).1
-
-refused-command : (files : Files) (command : Option Command) → (status_of (command_report files command) ≡ status.Refused)
-    ↔ ((command ≢ None) × (command_block files (option_and_then proving_of command) ≡ None))
-refused-command files None = (λ h. cc, λ h. absurd (h.0 refl))
-refused-command files (Some command) =
-    let third = (proving-statuses files (proving_of command)).2 in
-    (λ h. (λ is. cc, third.0 h), λ h. third.1 h.1)
-
-pub differs-status : (files : Files) (words : List (List ℕ)) → (status_of (report_of files words) ≡ status.No) ↔ SampledDiffers files words
-differs-status files words = differs-command files (command_of words)
-
-pub agrees-status : (files : Files) (words : List (List ℕ)) → (status_of (report_of files words) ≡ status.Unknown) ↔ SampledAgrees files words
-agrees-status files words = agrees-command files (command_of words)
-
-pub refused-status : (files : Files) (words : List (List ℕ)) → (status_of (report_of files words) ≡ status.Refused) ↔ ((command_of words ≢ None) × (asked_block files words ≡ None))
-refused-status files words = refused-command files (command_of words)
-
-pub status-iff : (told : Option Files) (ended due : Status) (words : List (List ℕ)) (F : Files → Type 0)
-    → ((files : Files) → (status_of (report_of files words) ≡ due) ↔ F files)
-    → IfSome told (λ files. UnlessFailed ended (ended ≡ status_of (report_of files words)))
+pub status-iff : (told : Option Files) (ended due : Status) (words : List (List ℕ)) (old new : Option (List ℕ)) (F : Files → Type 0)
+    → ((files : Files) (report : Report) → Answers files words report → (status_of report ≡ due) ↔ F files)
+    → IfSome told (λ files. UnlessFailed ended (PutsAnswer files words old new ended))
     → IfSome told (λ files. UnlessFailed ended ((ended ≡ due) ↔ F files))
-status-iff None ended due words F f h = h
-status-iff (Some files) ended due words F f h =
-    unless-map ended (ended ≡ status_of (report_of files words)) ((ended ≡ due) ↔ F files)
-    (λ is. (λ e. (f files).0 (sym is ∙ e), λ x. is ∙ (f files).1 x)) h
+status-iff None ended due words old new F f h = h
+status-iff (Some files) ended due words old new F f h =
+    unless-map ended (PutsAnswer files words old new ended) ((ended ≡ due) ↔ F files)
+    (λ puts. let both = f files puts.report puts.answer in (λ e. both.0 (sym puts.said ∙ e), λ x. puts.said ∙ both.1 x)) h
 
--- a refusal, where the files or the words give it
-texts-as : (ended : Status) (old new : Option (List ℕ)) (report due : Report) → report ≡ due
-    → UnlessFailed ended (new ≡ after_put old (text_of report)) → UnlessFailed ended (new ≡ after_put old (text_of due))
-texts-as ended old new report due is h =
-    let P : Report → Type 0 = λ r. UnlessFailed ended (new ≡ after_put old (text_of r)) in subst P is h
+pub unknown-status : (words : List (List ℕ)) (files : Files) (report : Report) → Answers files words report → (status_of report ≡ status.Unknown) ↔ SampledAgrees files words
+unknown-status words files report answer = (command-says files (command_of words) report answer).unknown
 
-asked-report : (files : Files) (command : Option Command) (proving : Proving) → option_and_then proving_of command ≡ Some proving → command_report files command ≡ command_answer files proving
-asked-report files None proving is = cc
-asked-report files (Some command) proving is = ap (proving_report files) is
+pub agrees-status : (words : List (List ℕ)) (files : Files) (report : Report) → Answers files words report → (status_of report ≡ status.Yes) ↔ ReplayAgrees files words
+agrees-status words files report answer = (command-says files (command_of words) report answer).agrees
 
-report-short : (files : Files) (words : List (List ℕ)) (command : Proving) (short : Shortfall) → proving_asked words ≡ Some command
-    → gathered files (wanted_of command) ≡ Err short → report_of files words ≡ short_report short
-report-short files words command short is lacks = asked-report files (command_of words) command is ∙ ap (files_report command) lacks
-
-pub short-put : (told : Option Files) (ended : Status) (words : List (List ℕ)) (old new : Option (List ℕ))
-    → IfSome told (λ files. UnlessFailed ended (new ≡ after_put old (text_of (report_of files words))))
-    → IfSome told (λ files. (command : Proving) (short : Shortfall) → proving_asked words ≡ Some command → gathered files (wanted_of command) ≡ Err short
-    → UnlessFailed ended (new ≡ after_put old (text_of (short_report short))))
-short-put None ended words old new h = h
-short-put (Some files) ended words old new h = λ command short is lacks. texts-as ended old new (report_of files words) (short_report short) (report-short files words command short is lacks) h
-
-report-words : (files : Files) (words : List (List ℕ)) (command : Command) → command_of words ≡ Some command → proving_of command ≡ None → report_of files words ≡ Refused NotYet (codes "words")
-report-words files words command is later = ap (command_report files) is ∙ ap (proving_report files) later
-
-pub words-put : (told : Option Files) (ended : Status) (words : List (List ℕ)) (old new : Option (List ℕ))
-    → IfSome told (λ files. UnlessFailed ended (new ≡ after_put old (text_of (report_of files words))))
-    → IfSome told (λ files. (command : Command) → command_of words ≡ Some command → proving_of command ≡ None → UnlessFailed ended (new ≡ after_put old (text_of (Refused NotYet (codes "words")))))
-words-put None ended words old new h = h
-words-put (Some files) ended words old new h = λ command is later. texts-as ended old new (report_of files words) (Refused NotYet (codes "words")) (report-words files words command is later) h
-
-answer-kind : (command : Proving) (rdl ports verilog : List ℕ) (kind : Kind) → block_of rdl ports verilog ≡ Err kind → answer_to command rdl ports verilog ≡ Refused NotYet (name_of command kind)
-unfolding answer_to
-answer-kind command rdl ports verilog kind is = ap (block_report command) is
-
-report-form : (files : Files) (words : List (List ℕ)) (command : Proving) (texts : List (List ℕ)) (kind : Kind) → proving_asked words ≡ Some command
-    → gathered files (wanted_of command) ≡ Ok texts → block_of (slice_index_or texts 0 []) (slice_index_or texts 1 []) (slice_index_or texts 2 []) ≡ Err kind
-    → report_of files words ≡ Refused NotYet (name_of command kind)
-report-form files words command texts kind is whole form =
-    asked-report files (command_of words) command is ∙ ap (files_report command) whole ∙ answer-kind command _ _ _ kind form
-
-pub form-put : (told : Option Files) (ended : Status) (words : List (List ℕ)) (old new : Option (List ℕ))
-    → IfSome told (λ files. UnlessFailed ended (new ≡ after_put old (text_of (report_of files words))))
-    → IfSome told (λ files. (command : Proving) (texts : List (List ℕ)) (kind : Kind) → proving_asked words ≡ Some command → gathered files (wanted_of command) ≡ Ok texts
-    → block_of (slice_index_or texts 0 []) (slice_index_or texts 1 []) (slice_index_or texts 2 []) ≡ Err kind
-    → UnlessFailed ended (new ≡ after_put old (text_of (Refused NotYet (name_of command kind)))))
-form-put None ended words old new h = h
-form-put (Some files) ended words old new h = λ command texts kind is whole form.
-    texts-as ended old new (report_of files words) (Refused NotYet (name_of command kind)) (report-form files words command texts kind is whole form) h
+pub differs-status : (words : List (List ℕ)) (files : Files) (report : Report) → Answers files words report
+    → (status_of report ≡ status.No) ↔ (SampledDiffers files words ⊎ ReplayDiffers files words)
+differs-status words files report answer = (command-says files (command_of words) report answer).differs

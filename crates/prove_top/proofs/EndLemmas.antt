@@ -9,25 +9,15 @@ use Rattle.std.proofs.Math.Seq.{take-length}
 use Rattle.tool_edge.specs.Files.{Files}
 use Rattle.tool_edge.specs.Written.{after_put, AppendsPart}
 use Rattle.tool_edge.specs.declared.depot.DepotCall.{DepotCall}
-use Rattle.trace_replay.specs.declared.block.Block.{Block}
-use Rattle.trace_replay.specs.declared.joint.Difference.{Difference}
-use Rattle.prove_top.specs.declared.gather.Kind.{Kind}
-use Rattle.prove_top.specs.declared.gather.Shortfall.{Shortfall}
-use Rattle.prove_top.specs.declared.gather.Shortfall.TheVariants.{Missing, Long}
 use Rattle.prove_top.specs.declared.report.Report.{Report}
-use Rattle.prove_top.specs.declared.report.Report.TheVariants.{Usage, Refused, Refuted, Simulated, FaultRead}
+use Rattle.prove_top.specs.declared.report.Report.TheVariants.{Usage, Refused, WrongTrace, Refuted, Simulated, Agrees, Differs, FaultRead}
 use Rattle.prove_top.specs.declared.report.Status.{Status}
 use Rattle.prove_top.specs.declared.report.Status.TheVariants as status
 use Rattle.prove_top.specs.declared.report.TheConstants.{MEMORY_LINE}
-use Rattle.prove_top.specs.declared.words.Proving.{Proving}
-use Rattle.prove_top.specs.Answer.{IsAnswer, UnlessFault, TellsFailed, names_asked, report_of, command_report, proving_report, command_answer, files_report, short_report, answer_to, block_report, block_of, run_report, difference_report, wanted_of}
-use Rattle.prove_top.specs.Ends.{Ends, EndsPut, Completes, FailsPut, WantsMemory, MayReport, Ran, UnlessFailed}
-use Rattle.prove_top.specs.Gather.{gathered}
+use Rattle.prove_top.specs.Answer.{Answers, UnlessFault, TellsFailed, names_asked}
+use Rattle.prove_top.specs.Ends.{Ends, EndsPut, Completes, FailsPut, WantsMemory, MayReport, PutsAnswer, Ran, Reported, Wanting, UnlessFailed}
 use Rattle.prove_top.specs.Reads.{ReadsOnly, failed_of}
 use Rattle.prove_top.specs.Report.{status_of, text_of}
-use Rattle.prove_top.specs.Sampled.{sampled}
-use Rattle.prove_top.specs.declared.words.Command.{Command}
-use Rattle.prove_top.specs.Words.{command_of, proving_of}
 
 -- whatever a put answers, a part of the bytes is put
 pub put-part : {A E : Type 0} (r : Result A E) (old : Option (List ℕ)) (bytes : List ℕ) (new : Option (List ℕ))
@@ -55,115 +45,58 @@ unless-fault ended P is = let Q : Status → Type 0 = λ s. UnlessFailed s P in 
 unless-memory : (ended : Status) (P : Type 0) → ended ≡ status.NoMemory → UnlessFailed ended P
 unless-memory ended P is = let Q : Status → Type 0 = λ s. UnlessFailed s P in subst Q (sym is) tt
 
--- what holds of the report that is put holds of the expected one, unless the outside failed
-completes-unless : (report expected : Report) (ended : Status) (Q : Report → Type 0)
-    → UnlessFault report (report ≡ expected) → ended ≡ status_of report → Q report → UnlessFailed ended (Q expected)
-completes-unless Usage expected ended Q is said q = unless-any ended (Q expected) (subst Q is q)
-completes-unless (Refused why file) expected ended Q is said q = unless-any ended (Q expected) (subst Q is q)
-completes-unless (Refuted edge what trace) expected ended Q is said q = unless-any ended (Q expected) (subst Q is q)
-completes-unless Simulated expected ended Q is said q = unless-any ended (Q expected) (subst Q is q)
-completes-unless (FaultRead file) expected ended Q is said q = unless-fault ended (Q expected) said
+-- a fact about the report that is put, unless the outside failed
+completes-fact : (report : Report) (ended : Status) (A Q : Type 0) → UnlessFault report A → ended ≡ status_of report → (A → Q) → UnlessFailed ended Q
+completes-fact Usage ended A Q a said f = unless-any ended Q (f a)
+completes-fact (Refused why file) ended A Q a said f = unless-any ended Q (f a)
+completes-fact (WrongTrace why line file) ended A Q a said f = unless-any ended Q (f a)
+completes-fact (Refuted edge what trace) ended A Q a said f = unless-any ended Q (f a)
+completes-fact Simulated ended A Q a said f = unless-any ended Q (f a)
+completes-fact (Agrees edges) ended A Q a said f = unless-any ended Q (f a)
+completes-fact (Differs edge what) ended A Q a said f = unless-any ended Q (f a)
+completes-fact (FaultRead file) ended A Q a said f = unless-fault ended Q said
 
-ends-status-of : (report expected : Report) (old new : Option (List ℕ)) (before now : ℕ) (ended : Status)
-    → UnlessFault report (report ≡ expected) → Ends report old new before now ended → UnlessFailed ended (ended ≡ status_of expected)
-ends-status-of report expected old new before now ended is (inl done) =
-    completes-unless report expected ended (λ r. ended ≡ status_of r) is done.said done.said
-ends-status-of report expected old new before now ended is (inr (inl fails)) = unless-fault ended (ended ≡ status_of expected) fails.said
-ends-status-of report expected old new before now ended is (inr (inr wants)) = unless-memory ended (ended ≡ status_of expected) wants.said
+ends-answer-of : (files : Files) (report : Report) (words : List (List ℕ)) (old new : Option (List ℕ)) (before now : ℕ) (ended : Status)
+    → UnlessFault report (Answers files words report) → Ends report old new before now ended → UnlessFailed ended (PutsAnswer files words old new ended)
+ends-answer-of files report words old new before now ended answer (inl done) =
+    completes-fact report ended (Answers files words report) (PutsAnswer files words old new ended) answer done.said
+    (λ a. record { report = report; answer = a; said = done.said; put = done.written })
+ends-answer-of files report words old new before now ended answer (inr (inl fails)) = unless-fault ended (PutsAnswer files words old new ended) fails.said
+ends-answer-of files report words old new before now ended answer (inr (inr wants)) = unless-memory ended (PutsAnswer files words old new ended) wants.said
 
-pub ends-status : (told : Option Files) (report : Report) (words : List (List ℕ)) (old new : Option (List ℕ)) (before now : ℕ) (ended : Status)
-    → IfSome told (λ files. UnlessFault report (report ≡ report_of files words)) → Ends report old new before now ended
-    → IfSome told (λ files. UnlessFailed ended (ended ≡ status_of (report_of files words)))
-ends-status None report words old new before now ended is ends = tt
-ends-status (Some files) report words old new before now ended is ends = ends-status-of report (report_of files words) old new before now ended is ends
+pub ends-answer : (told : Option Files) (report : Report) (words : List (List ℕ)) (old new : Option (List ℕ)) (before now : ℕ) (ended : Status)
+    → IfSome told (λ files. UnlessFault report (Answers files words report)) → Ends report old new before now ended
+    → IfSome told (λ files. UnlessFailed ended (PutsAnswer files words old new ended))
+ends-answer None report words old new before now ended answer ends = tt
+ends-answer (Some files) report words old new before now ended answer ends = ends-answer-of files report words old new before now ended answer ends
 
-ends-text-of : (report expected : Report) (old new : Option (List ℕ)) (before now : ℕ) (ended : Status)
-    → UnlessFault report (report ≡ expected) → Ends report old new before now ended → UnlessFailed ended (new ≡ after_put old (text_of expected))
-ends-text-of report expected old new before now ended is (inl done) =
-    completes-unless report expected ended (λ r. new ≡ after_put old (text_of r)) is done.said done.written
-ends-text-of report expected old new before now ended is (inr (inl fails)) = unless-fault ended (new ≡ after_put old (text_of expected)) fails.said
-ends-text-of report expected old new before now ended is (inr (inr wants)) = unless-memory ended (new ≡ after_put old (text_of expected)) wants.said
+at-told : (told : Option Files) (P : Files → Type 0) → IfSome told P → (files : Files) → told ≡ Some files → P files
+at-told None P h files is = cc
+at-told (Some others) P h files is = let same : others ≡ files = cc in subst P same h
 
-pub ends-text : (told : Option Files) (report : Report) (words : List (List ℕ)) (old new : Option (List ℕ)) (before now : ℕ) (ended : Status)
-    → IfSome told (λ files. UnlessFault report (report ≡ report_of files words)) → Ends report old new before now ended
-    → IfSome told (λ files. UnlessFailed ended (new ≡ after_put old (text_of (report_of files words))))
-ends-text None report words old new before now ended is ends = tt
-ends-text (Some files) report words old new before now ended is ends = ends-text-of report (report_of files words) old new before now ended is ends
-
--- no report that the files give is about a read that failed
-tells-short : (short : Shortfall) → TellsFailed (short_report short) None
-tells-short (Missing name) = refl
-tells-short (Long kind name) = refl
-
-tells-difference : (block : Block) (seed : ℕ) (first : Option (ℕ × Difference)) → TellsFailed (difference_report block seed first) None
-tells-difference block seed None = refl
-tells-difference block seed (Some first) = refl
-
-tells-run : (block : Block) (seed : ℕ) → TellsFailed (run_report block seed) None
-unfolding run_report
-tells-run block seed = tells-difference block seed (sampled block seed)
-
-tells-block : (command : Proving) (block : Result Block Kind) → TellsFailed (block_report command block) None
-tells-block command (Ok block) = tells-run block command.seed
-tells-block command (Err kind) = refl
-
-tells-answer : (command : Proving) (rdl ports verilog : List ℕ) → TellsFailed (answer_to command rdl ports verilog) None
-unfolding answer_to
-tells-answer command rdl ports verilog = tells-block command (block_of rdl ports verilog)
-
-tells-files : (command : Proving) (files : Result (List (List ℕ)) Shortfall) → TellsFailed (files_report command files) None
-tells-files command (Err short) = tells-short short
-tells-files command (Ok files) = tells-answer command _ _ _
-
-tells-proving : (files : Files) (proving : Option Proving) → TellsFailed (proving_report files proving) None
-tells-proving files None = refl
-tells-proving files (Some proving) = tells-files proving (gathered files (wanted_of proving))
-
-tells-command : (files : Files) (command : Option Command) → TellsFailed (command_report files command) None
-tells-command files None = refl
-tells-command files (Some command) = tells-proving files (proving_of command)
-
-tells-report_of : (files : Files) (words : List (List ℕ)) → TellsFailed (report_of files words) None
-tells-report_of files words = tells-command files (command_of words)
-
--- where memory is wanted, some report may have been due
-unless-tells : (report : Report) → TellsFailed report None → (P : Type 0) → P → UnlessFault report P
-unless-tells Usage tells P p = p
-unless-tells (Refused why file) tells P p = p
-unless-tells (Refuted edge what trace) tells P p = p
-unless-tells Simulated tells P p = p
-unless-tells (FaultRead file) tells P p = tt
-
-due : (told : Option Files) (words : List (List ℕ)) (failed : Option (List ℕ)) → (report : Report) × MayReport told words failed report
-due told words (Some name) = (FaultRead name, record { failure = refl; answer = λ files is. tt })
-due None words None = (Usage, record { failure = refl; answer = λ files is. cc })
-due (Some files) words None = (
-  report_of files words,
-  record {
-    failure = tells-report_of files words;
-    answer = λ others is.
-        let P : Files → Type 0 = λ told. UnlessFault (report_of files words) (report_of files words ≡ report_of told words) in
-        let same : files ≡ others = cc in
-        subst P same (unless-tells (report_of files words) (tells-report_of files words) (report_of files words ≡ report_of files words) refl);
-  },
-)
+-- a command that ends with a report, and one that wants memory before
+pub reads-ran : (told : Option Files) (words : List (List ℕ)) (calls_before calls_after : Option (List DepotCall)) (report : Report)
+    (old new : Option (List ℕ)) (before now : ℕ) (ended : Status)
+    → ReadsOnly (names_asked words) calls_before calls_after (λ added. TellsFailed report (failed_of added))
+    → IfSome told (λ files. UnlessFault report (Answers files words report)) → Ends report old new before now ended
+    → ReadsOnly (names_asked words) calls_before calls_after (Ran told words old new before now ended)
+reads-ran told words calls_before calls_after report old new before now ended all answer ends = record {
+  added = all.added;
+  told = all.told;
+  reads = all.reads;
+  ends = inl (record {
+    report = report;
+    may = record { failure = all.ends; answer = at-told told (λ files. UnlessFault report (Answers files words report)) answer };
+    ends = ends;
+  });
+}
 
 pub reads-wanting : (told : Option Files) (words : List (List ℕ)) (calls_before calls_after : Option (List DepotCall)) (P : List DepotCall → Type 0)
     (old new : Option (List ℕ)) (before now : ℕ) (ended : Status)
     → ReadsOnly (names_asked words) calls_before calls_after P → ended ≡ status.NoMemory → AppendsPart old MEMORY_LINE.now new
     → ReadsOnly (names_asked words) calls_before calls_after (Ran told words old new before now ended)
 reads-wanting told words calls_before calls_after P old new before now ended all said part =
-    let may = due told words (failed_of all.added) in
-    record {
-      added = all.added;
-      told = all.told;
-      reads = all.reads;
-      ends = record {
-        report = may.0;
-        may = may.1;
-        ends = inr (inr (record { said = said; written = (old, put-none old (text_of may.0), part) }));
-      };
-    }
+    record { added = all.added; told = all.told; reads = all.reads; ends = inr (record { said = said; written = part }) }
 
 -- a text of two parts, put one after the other
 take-over : (n : ℕ) (xs : List ℕ) → length xs < n → take n xs ≡ xs

@@ -1,22 +1,41 @@
 -- What an answer to three texts tells of the whole command.
-use Rattle.std.proofs.Common.{◌≡◌, ℕ, List, [], ◌∷◌, Option, Some, None, Result, Ok, Err, IfOk, IfSome, sym, ap, subst, ◌∙◌}
+use Rattle.std.proofs.Common.{◌≡◌, ℕ, ◌<◌, ◌≤◌, Bool, List, [], ◌∷◌, length, get_or, Option, Some, None, Result, Ok, Err, IfOk, IfSome, Vec, Global, refl, sym, ap, subst, ◌∙◌}
 use Rattle.tool_edge.specs.Files.{Files}
 use Rattle.tool_edge.specs.declared.depot.DepotCall.{DepotCall}
 use Rattle.prove_top.specs.declared.report.Report.{Report}
-use Rattle.prove_top.specs.declared.report.Report.TheVariants.{Usage, Refused, Refuted, Simulated, FaultRead}
+use Rattle.prove_top.specs.declared.report.Report.TheVariants.{Usage, Refused, WrongTrace, Refuted, Simulated, Agrees, Differs, FaultRead}
 use Rattle.prove_top.specs.declared.words.Command.{Command}
-use Rattle.prove_top.specs.declared.words.Proving.{Proving}
-use Rattle.prove_top.specs.Answer.{IsAnswer, IsUsage, IfFault, UnlessFault, TellsFailed, report_of, command_report, proving_report, command_answer}
+use Rattle.prove_top.specs.declared.words.Task.{Task}
+use Rattle.prove_top.specs.declared.words.Work.{Work}
+use Rattle.prove_top.specs.declared.words.Work.TheVariants as work
+use Rattle.prove_top.specs.declared.gather.Shortfall.{Shortfall}
+use Rattle.trace_replay.specs.declared.block.Block.{Block}
+use Rattle.trace_replay.specs.declared.fault.TraceCode.{TraceCode}
+use Rattle.trace_replay.specs.declared.fault.TraceCode.TheVariants as code
+use Rattle.trace_replay.specs.declared.fault.TraceFault.TheVariants.{At}
+use Rattle.trace_replay.specs.declared.joint.Difference.{Difference}
+use Rattle.trace_replay.specs.declared.read.TheConstants.{TRACE_LIMIT}
+use Rattle.trace_replay.specs.declared.trace.Trace.{Trace}
+use Rattle.trace_replay.specs.LegalTrace.{IsLegalTrace}
+use Rattle.trace_replay.specs.Lines.{lines_of}
+use Rattle.trace_replay.specs.Reading.{IsIllegal, IsWrongLine, IsWrongName, Refuses}
+use Rattle.trace_replay.specs.Trace.{trace_difference}
+use Rattle.trace_replay.specs.TraceText.{trace_text}
+use Rattle.prove_top.specs.Answer.{IsAnswer, IsUsage, IfFault, UnlessFault, TellsFailed, Answers, CommandAnswer, AskedAnswer, TaskAnswer, FilesAnswer, TextsAnswer, WorkAnswer, ReplayAnswer, Replays, block_of, block_wanted, wanted_for, wanted_of, short_report, sample_report, trace_report, wrong_report, text_at}
 use Rattle.prove_top.specs.declared.gather.Wanted.{Wanted}
-use Rattle.prove_top.specs.Gather.{names_of}
+use Rattle.prove_top.specs.Gather.{contents, gathered, names_of}
 use Rattle.prove_top.specs.Reads.{AreReads, ReadsOnly, failed_of}
-use Rattle.prove_top.specs.Words.{command_of, proving_of}
+use Rattle.std.proofs.lemmas.List.{get_or-map}
+use Rattle.prove_top.specs.Words.{command_of, task_of}
 
 answer-usage : (report : Report) → IsAnswer report → IsUsage report → ⊥
 answer-usage Usage answer usage = answer
 answer-usage (Refused why file) answer usage = usage
 answer-usage (Refuted edge what trace) answer usage = usage
 answer-usage Simulated answer usage = usage
+answer-usage (WrongTrace why line file) answer usage = usage
+answer-usage (Agrees edges) answer usage = usage
+answer-usage (Differs edge what) answer usage = usage
 answer-usage (FaultRead file) answer usage = usage
 
 answer-tells : (report : Report) (failed : Option (List ℕ)) → IsAnswer report → failed ≡ None → TellsFailed report failed
@@ -24,6 +43,9 @@ answer-tells Usage failed answer none = none
 answer-tells (Refused why file) failed answer none = none
 answer-tells (Refuted edge what trace) failed answer none = none
 answer-tells Simulated failed answer none = none
+answer-tells (WrongTrace why line file) failed answer none = none
+answer-tells (Agrees edges) failed answer none = none
+answer-tells (Differs edge what) failed answer none = none
 answer-tells (FaultRead file) failed answer none = absurd answer
 
 answer-rose : (report : Report) (P : Type 0) → IsAnswer report → IfFault report P
@@ -31,6 +53,9 @@ answer-rose Usage P answer = tt
 answer-rose (Refused why file) P answer = tt
 answer-rose (Refuted edge what trace) P answer = tt
 answer-rose Simulated P answer = tt
+answer-rose (WrongTrace why line file) P answer = tt
+answer-rose (Agrees edges) P answer = tt
+answer-rose (Differs edge what) P answer = tt
 answer-rose (FaultRead file) P answer = absurd answer
 
 pub answered-usage : {E : Type 0} (r : Result Report E) → IfOk r IsAnswer → IfOk r (λ report. IsUsage report → ⊥)
@@ -57,14 +82,105 @@ reads-answered asked wanted before after r same answer all =
       ends = answered-tells r (failed_of all.added) answer all.ends;
     }
 
-report_of-command : (files : Files) (words : List (List ℕ)) (command : Command) (proving : Proving) → command_of words ≡ Some command → proving_of command ≡ Some proving
-    → report_of files words ≡ command_answer files proving
-report_of-command files words command proving is answered = ap (command_report files) is ∙ ap (proving_report files) answered
+pub plan-answer : {E : Type 0} (told : Option Files) (r : Result Report E) (words : List (List ℕ)) (command : Command) (task : Task) → command_of words ≡ Some command → task_of command ≡ Some task
+    → IfSome told (λ files. IfOk r (λ report. UnlessFault report (TaskAnswer files task report)))
+    → IfSome told (λ files. IfOk r (λ report. UnlessFault report (Answers files words report)))
+plan-answer None r words command task is answered h = h
+plan-answer (Some files) r words command task is answered h =
+    let P : Option Command → Type 0 = λ c. IfOk r (λ report. UnlessFault report (CommandAnswer files c report)) in
+    let Q : Option Task → Type 0 = λ t. IfOk r (λ report. UnlessFault report (AskedAnswer files t report)) in
+    subst P (sym is) (subst Q (sym answered) h)
 
-pub plan-answer : {E : Type 0} (told : Option Files) (r : Result Report E) (words : List (List ℕ)) (command : Command) (proving : Proving) → command_of words ≡ Some command → proving_of command ≡ Some proving
-    → IfSome told (λ files. IfOk r (λ report. UnlessFault report (report ≡ command_answer files proving)))
-    → IfSome told (λ files. IfOk r (λ report. UnlessFault report (report ≡ report_of files words)))
-plan-answer None r words command proving is answered h = h
-plan-answer (Some files) r words command proving is answered h =
-    let P : Report → Type 0 = λ expected. IfOk r (λ report. UnlessFault report (report ≡ expected)) in
-    subst P (sym (report_of-command files words command proving is answered)) h
+answer-files : (files : Files) (task : Task) (got : Result (List (List ℕ)) Shortfall) (report : Report) → gathered files (wanted_of task) ≡ got → FilesAnswer task got report → TaskAnswer files task report
+answer-files files task got report is h = let P : Result (List (List ℕ)) Shortfall → Type 0 = λ g. FilesAnswer task g report in subst P (sym is) h
+
+any-answer : (report : Report) (A : Type 0) → A → UnlessFault report A
+any-answer Usage A a = a
+any-answer (Refused why file) A a = a
+any-answer (WrongTrace why line file) A a = a
+any-answer (Refuted edge what trace) A a = a
+any-answer Simulated A a = a
+any-answer (Agrees edges) A a = a
+any-answer (Differs edge what) A a = a
+any-answer (FaultRead file) A a = tt
+
+-- the answer to gathered files, and to files that lack something
+pub texts-answer : {E : Type 0} (told : Option Files) (task : Task) (asked : List Wanted) (texts : List (List ℕ)) (r : Result Report E) → asked ≡ wanted_of task
+    → IfSome told (λ files. gathered files asked ≡ Ok texts) → IfOk r (TextsAnswer task texts)
+    → IfSome told (λ files. IfOk r (λ report. UnlessFault report (TaskAnswer files task report)))
+texts-answer None task asked texts r same is h = tt
+texts-answer (Some files) task asked texts (Ok report) same is h =
+    any-answer report (TaskAnswer files task report) (answer-files files task (Ok texts) report (sym (ap (gathered files) same) ∙ is) h)
+texts-answer (Some files) task asked texts (Err e) same is h = tt
+
+pub short-answer : (told : Option Files) (task : Task) (asked : List Wanted) (short : Shortfall) (report : Report) → asked ≡ wanted_of task
+    → IfSome told (λ files. gathered files asked ≡ Err short) → report ≡ short_report short
+    → IfSome told (λ files. UnlessFault report (TaskAnswer files task report))
+short-answer None task asked short report same is h = tt
+short-answer (Some files) task asked short report same is h =
+    any-answer report (TaskAnswer files task report) (answer-files files task (Err short) report (sym (ap (gathered files) same) ∙ is) h)
+
+-- the texts of a task, by their places
+text-is : (files : List (Vec ℕ Global)) (place : ℕ) (file : Vec ℕ Global) → place < length files → file ≡ get_or files place file → file.items ≡ text_at (contents files) place
+text-is files place file below is = ap (λ (v : Vec ℕ Global). v.items) is ∙ sym (get_or-map (λ (v : Vec ℕ Global). v.items) files place file [] below)
+
+pub sample-texts : {E : Type 0} (task : Task) (texts : List (List ℕ)) (seed : ℕ) (rdl ports verilog : List ℕ) (r : Result Report E) → task.work ≡ work.Sample seed
+    → rdl ≡ text_at texts 0 → ports ≡ text_at texts 1 → verilog ≡ text_at texts 2
+    → IfOk r (λ report. report ≡ sample_report task seed (block_of rdl ports verilog)) → IfOk r (TextsAnswer task texts)
+sample-texts task texts seed rdl ports verilog (Err e) is a b d h = tt
+sample-texts task texts seed rdl ports verilog (Ok report) is a b d h =
+    let P : Work → Type 0 = λ w. WorkAnswer task texts w report in
+    let all : report ≡ sample_report task seed (block_of (text_at texts 0) (text_at texts 1) (text_at texts 2)) =
+    h ∙ ap (λ t. sample_report task seed (block_of t ports verilog)) a ∙ ap (λ t. sample_report task seed (block_of (text_at texts 0) t verilog)) b
+    ∙ ap (λ t. sample_report task seed (block_of (text_at texts 0) (text_at texts 1) t)) d in
+    subst P (sym is) all
+
+pub replay-texts : {E : Type 0} (task : Task) (texts : List (List ℕ)) (trace text rdl ports verilog : List ℕ) (r : Result Report E) → task.work ≡ work.Replay trace
+    → text ≡ text_at texts 0 → rdl ≡ text_at texts 1 → ports ≡ text_at texts 2 → verilog ≡ text_at texts 3
+    → IfOk r (λ report. ReplayAnswer task trace text (block_of rdl ports verilog) report) → IfOk r (TextsAnswer task texts)
+replay-texts task texts trace text rdl ports verilog (Err e) is a b d f h = tt
+replay-texts task texts trace text rdl ports verilog (Ok report) is a b d f h =
+    let P : Work → Type 0 = λ w. WorkAnswer task texts w report in
+    let A : List ℕ → Type 0 = λ t. ReplayAnswer task trace t (block_of rdl ports verilog) report in
+    let B : List ℕ → Type 0 = λ t. ReplayAnswer task trace (text_at texts 0) (block_of t ports verilog) report in
+    let D : List ℕ → Type 0 = λ t. ReplayAnswer task trace (text_at texts 0) (block_of (text_at texts 1) t verilog) report in
+    let F : List ℕ → Type 0 = λ t. ReplayAnswer task trace (text_at texts 0) (block_of (text_at texts 1) (text_at texts 2) t) report in
+    subst P (sym is) (subst F f (subst D d (subst B b (subst A a h))))
+
+pub file-text : (files : List (Vec ℕ Global)) (place : ℕ) (file : Vec ℕ Global) (bytes : List ℕ) → bytes ≡ file.items → place < length files → file ≡ get_or files place file
+    → bytes ≡ text_at (contents files) place
+file-text files place file bytes same below is = same ∙ text-is files place file below is
+
+pub task-files : (task : Task) (seed : ℕ) → task.work ≡ work.Sample seed → length (wanted_of task) ≡ 3
+task-files task seed is = ap (λ w. length (wanted_for w (block_wanted task))) is
+
+pub trace-files : (task : Task) (trace : List ℕ) → task.work ≡ work.Replay trace → length (wanted_of task) ≡ 4
+trace-files task trace is = ap (λ w. length (wanted_for w (block_wanted task))) is
+
+-- what a reading of a trace text tells of its report
+found-replays : (block : Block) (name text : List ℕ) (start : List Bool) (edges : List (List Bool)) (count : ℕ) → length text ≤ TRACE_LIMIT → IsLegalTrace block start edges
+    → text ≡ trace_text start edges → count ≡ length edges → (found : Option (ℕ × Difference)) → trace_difference block start edges ≡ found → Replays block name text (trace_report count found)
+found-replays block name text start edges count short legal is counted None first =
+    record { start = start; edges = edges; short = short; legal = legal; is = is; counted = counted; first = first }
+found-replays block name text start edges count short legal is counted (Some found) first =
+    (count, record { start = start; edges = edges; short = short; legal = legal; is = is; counted = counted; first = first })
+
+pub legal-replays : (block : Block) (name text : List ℕ) (start : List Bool) (edges : List (List Bool)) (count : ℕ) → length text ≤ TRACE_LIMIT → IsLegalTrace block start edges
+    → text ≡ trace_text start edges → count ≡ length edges → Replays block name text (trace_report count (trace_difference block start edges))
+legal-replays block name text start edges count short legal is counted = found-replays block name text start edges count short legal is counted (trace_difference block start edges) refl
+
+pub wrong-replays : (block : Block) (name text : List ℕ) (why : TraceCode) (line : ℕ)
+    → ((n : ℕ) → Refuses {A = Trace} (Err (At why line)) code.TraceSize n → (TRACE_LIMIT < length text) × (n ≡ 0))
+    → ((n : ℕ) → Refuses {A = Trace} (Err (At why line)) code.TraceLine n → (length text ≤ TRACE_LIMIT) × IsWrongLine (lines_of text) n)
+    → ((n : ℕ) → Refuses {A = Trace} (Err (At why line)) code.TraceName n → (length text ≤ TRACE_LIMIT) × IsWrongName (lines_of text) n)
+    → ((n : ℕ) → Refuses {A = Trace} (Err (At why line)) code.TraceIllegal n → (length text ≤ TRACE_LIMIT) × IsIllegal block text n)
+    → Replays block name text (wrong_report name why line)
+wrong-replays block name text code.TraceSize line a b d f = (refl, (a line (refl, refl)).0)
+wrong-replays block name text code.TraceLine line a b d f = let h = b line (refl, refl) in (refl, h.0, h.1)
+wrong-replays block name text code.TraceName line a b d f = let h = d line (refl, refl) in (refl, h.0, h.1)
+wrong-replays block name text code.TraceIllegal line a b d f = let h = f line (refl, refl) in (refl, h.0, h.1)
+
+pub as-replays : {E : Type 0} (block : Block) (name text : List ℕ) (due : Report) (r : Result Report E) → Replays block name text due → IfOk r (λ report. report ≡ due)
+    → IfOk r (λ report. Replays block name text report)
+as-replays block name text due (Ok report) h is = let P : Report → Type 0 = λ x. Replays block name text x in subst P (sym is) h
+as-replays block name text due (Err e) h is = tt

@@ -1,50 +1,73 @@
 -- The report that the told files give.
-use Rattle.std.specs.Prelude.{◌≡◌, ℕ, Bool, true, false, Option, Some, None, Result, Ok, Err, List, [], ◌∷◌, slice_index_or, codes, ⊤}
+use Rattle.std.specs.Prelude.{◌≡◌, ℕ, ◌<◌, ◌≤◌, Bool, true, false, Option, Some, None, Result, Ok, Err, List, [], ◌∷◌, length, slice_index_or, codes, ⊤}
 use Rattle.std.specs.Str.{bytes_eq}
 use Rattle.tool_edge.specs.Files.{Files}
 use Rattle.trace_replay.specs.declared.block.Block.{Block}
 use Rattle.trace_replay.specs.Blocks.{first_block}
+use Rattle.trace_replay.specs.declared.fault.TraceCode.{TraceCode}
+use Rattle.trace_replay.specs.declared.fault.TraceCode.TheVariants as code
 use Rattle.trace_replay.specs.declared.joint.Difference.{Difference}
+use Rattle.trace_replay.specs.declared.read.TheConstants.{TRACE_LIMIT}
+use Rattle.trace_replay.specs.LegalTrace.{IsLegalTrace}
+use Rattle.trace_replay.specs.Lines.{lines_of}
+use Rattle.trace_replay.specs.Reading.{IsIllegal, IsWrongLine, IsWrongName}
+use Rattle.trace_replay.specs.Trace.{trace_difference}
+use Rattle.trace_replay.specs.TraceText.{trace_text}
 use Rattle.prove_top.specs.declared.gather.Kind.{Kind}
-use Rattle.prove_top.specs.declared.gather.Kind.TheVariants.{Description, Ports, Verilog}
+use Rattle.prove_top.specs.declared.gather.Kind.TheVariants.{Description, Ports, Verilog, Trace}
 use Rattle.prove_top.specs.declared.gather.Wanted.{Wanted}
 use Rattle.prove_top.specs.declared.gather.Shortfall.{Shortfall}
 use Rattle.prove_top.specs.declared.gather.Shortfall.TheVariants.{Missing, Long}
-use Rattle.prove_top.specs.declared.plan.TheConstants.{DESCRIPTION_LIMIT, PORTS_LIMIT, VERILOG_LIMIT, PORTS}
+use Rattle.prove_top.specs.declared.plan.TheConstants.{DESCRIPTION_LIMIT, PORTS_LIMIT, VERILOG_LIMIT, TRACE_FILE_LIMIT, PORTS}
 use Rattle.prove_top.specs.declared.report.Refusal.{Refusal}
-use Rattle.prove_top.specs.declared.report.Refusal.TheVariants.{RdlSize, VlogSize, PortSize, NoFile, NotYet}
+use Rattle.prove_top.specs.declared.report.Refusal.TheVariants.{RdlSize, VlogSize, PortSize, TraceSize, NoFile, NotYet}
 use Rattle.prove_top.specs.declared.report.Report.{Report}
-use Rattle.prove_top.specs.declared.report.Report.TheVariants.{Usage, Refused, Refuted, Simulated, FaultRead}
+use Rattle.prove_top.specs.declared.report.Report.TheVariants.{Usage, Refused, WrongTrace, Refuted, Simulated, Agrees, Differs, FaultRead}
 use Rattle.prove_top.specs.declared.verilog.Drivers.{Drivers}
 use Rattle.prove_top.specs.declared.words.Command.{Command}
-use Rattle.prove_top.specs.declared.words.Proving.{Proving}
+use Rattle.prove_top.specs.declared.words.Task.{Task}
+use Rattle.prove_top.specs.declared.words.Work.{Work}
+use Rattle.prove_top.specs.declared.words.Work.TheVariants as work
 use Rattle.prove_top.specs.Description.{reset_of}
 use Rattle.prove_top.specs.Gather.{gathered, names_of}
 use Rattle.prove_top.specs.Sampled.{sampled, sampled_trace}
 use Rattle.prove_top.specs.Verilog.{drivers_of}
-use Rattle.prove_top.specs.Words.{command_of, proving_of, proving_asked}
+use Rattle.prove_top.specs.Words.{command_of, task_of, task_asked}
 
--- the files of a command, in the order of its words
-abbrev pub wanted_of : Proving → List Wanted
-wanted_of command =
-    record { name = command.rdl; limit = DESCRIPTION_LIMIT; kind = Description }
-    ∷ record { name = command.ports; limit = PORTS_LIMIT; kind = Ports }
-    ∷ record { name = command.verilog; limit = VERILOG_LIMIT; kind = Verilog } ∷ []
+-- the files of a task, in the order of its words
+abbrev pub block_wanted : Task → List Wanted
+block_wanted task =
+    record { name = task.rdl; limit = DESCRIPTION_LIMIT; kind = Description }
+    ∷ record { name = task.ports; limit = PORTS_LIMIT; kind = Ports }
+    ∷ record { name = task.verilog; limit = VERILOG_LIMIT; kind = Verilog } ∷ []
+
+abbrev pub wanted_for : Work → List Wanted → List Wanted
+wanted_for (work.Sample seed) wanted = wanted
+wanted_for (work.Replay trace) wanted = record { name = trace; limit = TRACE_FILE_LIMIT; kind = Trace } ∷ wanted
+
+abbrev pub wanted_of : Task → List Wanted
+wanted_of task = wanted_for task.work (block_wanted task)
 
 -- what the files lack, as a refusal
 abbrev pub size_refusal : Kind → Refusal
 size_refusal Description = RdlSize
 size_refusal Ports = PortSize
 size_refusal Verilog = VlogSize
+size_refusal Trace = TraceSize
 
 abbrev pub short_report : Shortfall → Report
 short_report (Missing name) = Refused NoFile name
 short_report (Long kind name) = Refused (size_refusal kind) name
 
-abbrev pub name_of : Proving → Kind → List ℕ
-name_of command Description = command.rdl
-name_of command Ports = command.ports
-name_of command Verilog = command.verilog
+abbrev pub trace_name : Work → List ℕ → List ℕ
+trace_name (work.Sample seed) other = other
+trace_name (work.Replay trace) other = trace
+
+abbrev pub name_of : Task → Kind → List ℕ
+name_of task Description = task.rdl
+name_of task Ports = task.ports
+name_of task Verilog = task.verilog
+name_of task Trace = trace_name task.work task.rdl
 
 -- the block of three texts, or the first that isn't of the first form: description, Verilog, ports
 abbrev pub block_with : Option ℕ → Option Drivers → Bool → Result Block Kind
@@ -64,75 +87,142 @@ difference_report block seed (Some first) = Refuted first.0 first.1 (sampled_tra
 unfoldable pub run_report : Block → ℕ → Report
 run_report block seed = difference_report block seed (sampled block seed)
 
--- the report of a command on its three texts
-abbrev pub block_report : Proving → Result Block Kind → Report
-block_report command (Ok block) = run_report block command.seed
-block_report command (Err kind) = Refused NotYet (name_of command kind)
+abbrev pub sample_report : Task → ℕ → Result Block Kind → Report
+sample_report task seed (Ok block) = run_report block seed
+sample_report task seed (Err kind) = Refused NotYet (name_of task kind)
 
-unfoldable pub answer_to : Proving → List ℕ → List ℕ → List ℕ → Report
-answer_to command rdl ports verilog = block_report command (block_of rdl ports verilog)
+-- a text is that of a legal trace of the block, whose run has this first difference, or none
+pub record ReplaysTo (block : Block) (text : List ℕ) (found : Option (ℕ × Difference)) (count : ℕ) : Type 0 where
+  pub start : List Bool
+  pub edges : List (List Bool)
+  pub short : length text ≤ TRACE_LIMIT
+  pub legal : IsLegalTrace block start edges
+  pub is : text ≡ trace_text start edges
+  pub counted : count ≡ length edges
+  pub first : trace_difference block start edges ≡ found
 
--- the report of a command on the told files
-abbrev pub files_report : Proving → Result (List (List ℕ)) Shortfall → Report
-files_report command (Err short) = short_report short
-files_report command (Ok files) = answer_to command (slice_index_or files 0 []) (slice_index_or files 1 []) (slice_index_or files 2 [])
+-- what the run of a trace text is reported as: its first difference, or that it has none at any of its
+-- edges; or why the text isn't that of a legal trace
+abbrev pub Replays : Block → List ℕ → List ℕ → Report → Type 0
+Replays block name text (Agrees edges) = ReplaysTo block text None edges
+Replays block name text (Differs edge what) = (count : ℕ) × ReplaysTo block text (Some (edge, what)) count
+Replays block name text (WrongTrace code.TraceLine line file) = (file ≡ name) × (length text ≤ TRACE_LIMIT) × IsWrongLine (lines_of text) line
+Replays block name text (WrongTrace code.TraceName line file) = (file ≡ name) × (length text ≤ TRACE_LIMIT) × IsWrongName (lines_of text) line
+Replays block name text (WrongTrace code.TraceIllegal line file) = (file ≡ name) × (length text ≤ TRACE_LIMIT) × IsIllegal block text line
+Replays block name text (WrongTrace code.TraceSize line file) = ⊥
+Replays block name text (Refused TraceSize file) = (file ≡ name) × (TRACE_LIMIT < length text)
+Replays block name text (Refused RdlSize file) = ⊥
+Replays block name text (Refused VlogSize file) = ⊥
+Replays block name text (Refused PortSize file) = ⊥
+Replays block name text (Refused NoFile file) = ⊥
+Replays block name text (Refused NotYet file) = ⊥
+Replays block name text Usage = ⊥
+Replays block name text (Refuted edge what trace) = ⊥
+Replays block name text Simulated = ⊥
+Replays block name text (FaultRead file) = ⊥
 
-abbrev pub command_answer : Files → Proving → Report
-command_answer files command = files_report command (gathered files (wanted_of command))
+abbrev pub ReplayAnswer : Task → List ℕ → List ℕ → Result Block Kind → Report → Type 0
+ReplayAnswer task trace text (Ok block) report = Replays block trace text report
+ReplayAnswer task trace text (Err kind) report = report ≡ Refused NotYet (name_of task kind)
+
+-- the report of a trace that is refused, and that of a legal one
+abbrev pub wrong_report : List ℕ → TraceCode → ℕ → Report
+wrong_report name code.TraceSize line = Refused TraceSize name
+wrong_report name code.TraceLine line = WrongTrace code.TraceLine line name
+wrong_report name code.TraceName line = WrongTrace code.TraceName line name
+wrong_report name code.TraceIllegal line = WrongTrace code.TraceIllegal line name
+
+abbrev pub trace_report : ℕ → Option (ℕ × Difference) → Report
+trace_report count None = Agrees count
+trace_report count (Some first) = Differs first.0 first.1
+
+-- the report of a task on its texts
+abbrev pub text_at : List (List ℕ) → ℕ → List ℕ
+text_at texts place = slice_index_or texts place []
+
+abbrev pub WorkAnswer : Task → List (List ℕ) → Work → Report → Type 0
+WorkAnswer task texts (work.Sample seed) report = report ≡ sample_report task seed (block_of (text_at texts 0) (text_at texts 1) (text_at texts 2))
+WorkAnswer task texts (work.Replay trace) report = ReplayAnswer task trace (text_at texts 0) (block_of (text_at texts 1) (text_at texts 2) (text_at texts 3)) report
+
+abbrev pub TextsAnswer : Task → List (List ℕ) → Report → Type 0
+TextsAnswer task texts report = WorkAnswer task texts task.work report
+
+-- the report of a task on the told files
+abbrev pub FilesAnswer : Task → Result (List (List ℕ)) Shortfall → Report → Type 0
+FilesAnswer task (Err short) report = report ≡ short_report short
+FilesAnswer task (Ok texts) report = TextsAnswer task texts report
+
+abbrev pub TaskAnswer : Files → Task → Report → Type 0
+TaskAnswer files task report = FilesAnswer task (gathered files (wanted_of task)) report
 
 -- the report of the words
-abbrev pub proving_report : Files → Option Proving → Report
-proving_report files None = Refused NotYet (codes "words")
-proving_report files (Some proving) = command_answer files proving
+abbrev pub AskedAnswer : Files → Option Task → Report → Type 0
+AskedAnswer files None report = report ≡ Refused NotYet (codes "words")
+AskedAnswer files (Some task) report = TaskAnswer files task report
 
-abbrev pub command_report : Files → Option Command → Report
-command_report files None = Usage
-command_report files (Some command) = proving_report files (proving_of command)
+abbrev pub CommandAnswer : Files → Option Command → Report → Type 0
+CommandAnswer files None report = report ≡ Usage
+CommandAnswer files (Some command) report = AskedAnswer files (task_of command) report
 
-abbrev pub report_of : Files → List (List ℕ) → Report
-report_of files words = command_report files (command_of words)
+abbrev pub Answers : Files → List (List ℕ) → Report → Type 0
+Answers files words report = CommandAnswer files (command_of words) report
 
 -- the names that the words ask for
-abbrev pub proving_names : Option Proving → List (List ℕ)
-proving_names None = []
-proving_names (Some proving) = names_of (wanted_of proving)
+abbrev pub task_names : Option Task → List (List ℕ)
+task_names None = []
+task_names (Some task) = names_of (wanted_of task)
 
 abbrev pub names_asked : List (List ℕ) → List (List ℕ)
-names_asked words = proving_names (proving_asked words)
+names_asked words = task_names (task_asked words)
 
 -- facts about one kind of report
 abbrev pub IsUsage : Report → Type 0
 IsUsage Usage = ⊤
 IsUsage (Refused why file) = ⊥
+IsUsage (WrongTrace why line file) = ⊥
 IsUsage (Refuted edge what trace) = ⊥
 IsUsage Simulated = ⊥
+IsUsage (Agrees edges) = ⊥
+IsUsage (Differs edge what) = ⊥
 IsUsage (FaultRead file) = ⊥
 
 abbrev pub IsAnswer : Report → Type 0
 IsAnswer Usage = ⊥
 IsAnswer (Refused why file) = ⊤
+IsAnswer (WrongTrace why line file) = ⊤
 IsAnswer (Refuted edge what trace) = ⊤
 IsAnswer Simulated = ⊤
+IsAnswer (Agrees edges) = ⊤
+IsAnswer (Differs edge what) = ⊤
 IsAnswer (FaultRead file) = ⊥
 
 abbrev pub IfFault : Report → Type 0 → Type 0
 IfFault (FaultRead file) P = P
 IfFault Usage P = ⊤
 IfFault (Refused why file) P = ⊤
+IfFault (WrongTrace why line file) P = ⊤
 IfFault (Refuted edge what trace) P = ⊤
 IfFault Simulated P = ⊤
+IfFault (Agrees edges) P = ⊤
+IfFault (Differs edge what) P = ⊤
 
 abbrev pub UnlessFault : Report → Type 0 → Type 0
 UnlessFault (FaultRead file) P = ⊤
 UnlessFault Usage P = P
 UnlessFault (Refused why file) P = P
+UnlessFault (WrongTrace why line file) P = P
 UnlessFault (Refuted edge what trace) P = P
 UnlessFault Simulated P = P
+UnlessFault (Agrees edges) P = P
+UnlessFault (Differs edge what) P = P
 
 -- a report names the read that failed, where one did
 abbrev pub TellsFailed : Report → Option (List ℕ) → Type 0
 TellsFailed (FaultRead name) failed = failed ≡ Some name
 TellsFailed Usage failed = failed ≡ None
 TellsFailed (Refused why file) failed = failed ≡ None
+TellsFailed (WrongTrace why line file) failed = failed ≡ None
 TellsFailed (Refuted edge what trace) failed = failed ≡ None
 TellsFailed Simulated failed = failed ≡ None
+TellsFailed (Agrees edges) failed = failed ≡ None
+TellsFailed (Differs edge what) failed = failed ≡ None

@@ -9,7 +9,7 @@ use Rattle.prove_top.specs.declared.report.Status.{Status}
 use Rattle.prove_top.specs.declared.report.Status.TheVariants as status
 use Rattle.prove_top.specs.declared.report.TheConstants.{MEMORY_LINE}
 use Rattle.prove_top.specs.Report.{status_of, text_of}
-use Rattle.prove_top.specs.Answer.{report_of, UnlessFault, TellsFailed}
+use Rattle.prove_top.specs.Answer.{Answers, UnlessFault, TellsFailed}
 use Rattle.prove_top.specs.Reads.{failed_of}
 
 -- the text is put, and the command ends as is due
@@ -35,16 +35,31 @@ EndsPut due text old new before now ended =
 abbrev pub Ends : Report → Option (List ℕ) → Option (List ℕ) → ℕ → ℕ → Status → Type 0
 Ends report old new before now ended = EndsPut (status_of report) (text_of report) old new before now ended
 
--- a report that the command may give: about the read that failed, else the one that the told files give
+-- a report that the command may give: about the read that failed, else one that the told files give
 pub record MayReport (told : Option Files) (words : List (List ℕ)) (failed : Option (List ℕ)) (report : Report) : Type 0 where
   pub failure : TellsFailed report failed
-  pub answer : (files : Files) → told ≡ Some files → UnlessFault report (report ≡ report_of files words)
+  pub answer : (files : Files) → told ≡ Some files → UnlessFault report (Answers files words report)
 
--- after these calls the command ends with such a report
-pub record Ran (told : Option Files) (words : List (List ℕ)) (old new : Option (List ℕ)) (before now : ℕ) (ended : Status) (added : List DepotCall) : Type 0 where
+-- such a report ends the command
+pub record Reported (told : Option Files) (words : List (List ℕ)) (old new : Option (List ℕ)) (before now : ℕ) (ended : Status) (added : List DepotCall) : Type 0 where
   pub report : Report
   pub may : MayReport told words (failed_of added) report
   pub ends : Ends report old new before now ended
+
+-- memory is wanted before there is a report: a part of the line that says so is put
+pub record Wanting (old new : Option (List ℕ)) (ended : Status) : Type 0 where
+  pub said : ended ≡ status.NoMemory
+  pub written : AppendsPart old MEMORY_LINE.now new
+
+abbrev pub Ran : Option Files → List (List ℕ) → Option (List ℕ) → Option (List ℕ) → ℕ → ℕ → Status → List DepotCall → Type 0
+Ran told words old new before now ended added = Reported told words old new before now ended added ⊎ Wanting old new ended
+
+-- the report that is put, which words and told files give
+pub record PutsAnswer (files : Files) (words : List (List ℕ)) (old new : Option (List ℕ)) (ended : Status) : Type 0 where
+  pub report : Report
+  pub answer : Answers files words report
+  pub said : ended ≡ status_of report
+  pub put : new ≡ after_put old (text_of report)
 
 -- a fact where neither the outside failed nor memory was wanted
 abbrev pub UnlessFailed : Status → Type 0 → Type 0

@@ -1,6 +1,8 @@
 -- What a command reports: a status and a line (this project's own).
 use Rattle.std.specs.Prelude.{ℕ, List, [], ◌∷◌, ◌++◌, codes}
 use Rattle.std.specs.Fmt.{decimal}
+use Rattle.trace_replay.specs.declared.fault.TraceCode.{TraceCode}
+use Rattle.trace_replay.specs.declared.fault.TraceCode.TheVariants as code
 use Rattle.trace_replay.specs.declared.joint.Difference.{Difference}
 use Rattle.trace_replay.specs.declared.joint.Difference.TheVariants as difference
 use Rattle.prove_top.specs.declared.report.Refusal.{Refusal}
@@ -24,7 +26,10 @@ status_number status.NoMemory = 6
 abbrev pub status_of : Report → Status
 status_of report.Usage = status.Usage
 status_of (report.Refused why file) = status.Refused
+status_of (report.WrongTrace why line file) = status.Refused
 status_of (report.Refuted edge what trace) = status.No
+status_of (report.Agrees edges) = status.Yes
+status_of (report.Differs edge what) = status.No
 status_of report.Simulated = status.Unknown
 status_of (report.FaultRead file) = status.Fault
 
@@ -33,6 +38,7 @@ abbrev pub refusal_head : Refusal → List ℕ
 refusal_head refusal.RdlSize = codes "refused 108 "
 refusal_head refusal.VlogSize = codes "refused 213 "
 refusal_head refusal.PortSize = codes "refused 307 "
+refusal_head refusal.TraceSize = codes "refused 504 "
 refusal_head refusal.NoFile = codes "refused 701 "
 refusal_head refusal.NotYet = codes "refused 801 "
 
@@ -40,6 +46,7 @@ abbrev pub refusal_tail : Refusal → List ℕ
 refusal_tail refusal.RdlSize = codes ":0:0 RdlSize"
 refusal_tail refusal.VlogSize = codes ":0:0 VlogSize"
 refusal_tail refusal.PortSize = codes ":0:0 PortSize"
+refusal_tail refusal.TraceSize = codes ":0:0 TraceSize"
 refusal_tail refusal.NoFile = codes ":0:0 NoFile"
 refusal_tail refusal.NotYet = codes ":0:0 NotYet"
 
@@ -53,11 +60,37 @@ difference_text (difference.Output line) = codes " output c.v"
 abbrev pub refuted_line : ℕ → Difference → List ℕ
 refuted_line edge what = codes "refuted edge=" ++ decimal edge ++ difference_text what
 
+-- the lines of a trace that is run
+abbrev pub agrees_line : ℕ → List ℕ
+agrees_line edges = codes "agrees edges=" ++ decimal edges ++ []
+
+abbrev pub differs_line : ℕ → Difference → List ℕ
+differs_line edge what = codes "differs edge=" ++ decimal edge ++ difference_text what
+
+-- a refusal of a trace: its code, the file, the line at column 1, and its name
+abbrev pub code_head : TraceCode → List ℕ
+code_head code.TraceLine = codes "refused 501 "
+code_head code.TraceName = codes "refused 502 "
+code_head code.TraceIllegal = codes "refused 503 "
+code_head code.TraceSize = codes "refused 504 "
+
+abbrev pub code_tail : TraceCode → List ℕ
+code_tail code.TraceLine = codes ":1 TraceLine"
+code_tail code.TraceName = codes ":1 TraceName"
+code_tail code.TraceIllegal = codes ":1 TraceIllegal"
+code_tail code.TraceSize = codes ":1 TraceSize"
+
+abbrev pub wrong_line : TraceCode → ℕ → List ℕ → List ℕ
+wrong_line why line file = code_head why ++ (file ++ codes ":" ++ decimal line) ++ code_tail why
+
 -- the line of a report, and its text
 abbrev pub line_of : Report → List ℕ
 line_of report.Usage = codes "usage: rdlprove prove, check, replay, map, sample or equal"
 line_of (report.Refused why file) = refusal_head why ++ file ++ refusal_tail why
+line_of (report.WrongTrace why line file) = wrong_line why line file
 line_of (report.Refuted edge what trace) = refuted_line edge what
+line_of (report.Agrees edges) = agrees_line edges
+line_of (report.Differs edge what) = differs_line edge what
 line_of report.Simulated = codes "unknown simulated"
 line_of (report.FaultRead file) = codes "fault read " ++ file ++ []
 
@@ -68,7 +101,10 @@ heading_of said = line_of said ++ 10 ∷ []
 abbrev pub trace_of : Report → List ℕ
 trace_of report.Usage = []
 trace_of (report.Refused why file) = []
+trace_of (report.WrongTrace why line file) = []
 trace_of (report.Refuted edge what trace) = trace
+trace_of (report.Agrees edges) = []
+trace_of (report.Differs edge what) = []
 trace_of report.Simulated = []
 trace_of (report.FaultRead file) = []
 

@@ -8,7 +8,8 @@ use Rattle.prove_top.specs.declared.words.Command.{Command}
 use Rattle.prove_top.specs.declared.words.Command.TheVariants.{Prove, Check, Replay, Map, Sample}
 use Rattle.prove_top.specs.declared.words.FileNames.{FileNames}
 use Rattle.prove_top.specs.declared.words.Options.{Options}
-use Rattle.prove_top.specs.declared.words.Proving.{Proving}
+use Rattle.prove_top.specs.declared.words.Task.{Task}
+use Rattle.prove_top.specs.declared.words.Work.TheVariants as work
 use Rattle.prove_top.specs.declared.words.TheConstants.{OTHERS_LIMIT, BOUND_LIMIT, BUDGET_LIMIT}
 
 -- a name has 1 to 255 bytes from `!` to `~`, and doesn't begin with `--`, as an option does
@@ -123,18 +124,19 @@ command_of (verb ∷ rest) =
     else if bytes_eq verb (codes "sample") then sample_of rest
     else None
 
--- what is answered so far: `prove` with one Verilog file and no option but a seed
+-- what is answered so far: `prove` with no option but a seed, and `replay`, each with one Verilog file
 abbrev pub is_plain : Options → Bool
 is_plain options = is_none options.bound && is_none options.budget && is_none options.cert && is_none options.trace
 
-abbrev pub proving_of : Command → Option Proving
-proving_of (Prove names options) =
+abbrev pub task_of : Command → Option Task
+task_of (Prove names options) =
     if names.others == 0 && is_plain options
-    then Some (record { rdl = names.rdl; ports = names.ports; verilog = names.verilog; seed = unwrap_or options.seed 1 }) else None
-proving_of (Check cert names) = None
-proving_of (Replay trace names) = None
-proving_of (Map rdl) = None
-proving_of (Sample number) = None
+    then Some (record { rdl = names.rdl; ports = names.ports; verilog = names.verilog; work = work.Sample (unwrap_or options.seed 1) }) else None
+task_of (Replay trace names) =
+    if names.others == 0 then Some (record { rdl = names.rdl; ports = names.ports; verilog = names.verilog; work = work.Replay trace }) else None
+task_of (Check cert names) = None
+task_of (Map rdl) = None
+task_of (Sample number) = None
 
-abbrev pub proving_asked : List (List ℕ) → Option Proving
-proving_asked words = option_and_then proving_of (command_of words)
+abbrev pub task_asked : List (List ℕ) → Option Task
+task_asked words = option_and_then task_of (command_of words)

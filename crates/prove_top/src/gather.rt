@@ -18,6 +18,7 @@ pub(crate) enum Kind {
     Description,
     Ports,
     Verilog,
+    Trace,
 }
 
 /// A file of a command: its name, how many bytes it may have, and its kind.

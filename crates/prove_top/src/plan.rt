@@ -4,25 +4,30 @@ ghost use Rattle.std.specs.Prelude.{◌≡◌, ◌+◌, ◌<◌, ◌≤◌, ◌�
 ghost use Rattle.prove_top.specs.Sampled.{cut_trace};
 ghost use Rattle.tool_edge.specs.Causes.{Rose};
 ghost use Rattle.prove_top.specs.Words.{command_of};
-ghost use Rattle.prove_top.specs.Gather.{names_of};
+ghost use Rattle.prove_top.specs.Gather.{contents, names_of};
+ghost use Rattle.trace_replay.specs.LegalTrace.{IsLegalTrace};
+ghost use Rattle.trace_replay.specs.Trace.{lists_of, trace_difference};
 ghost use Rattle.prove_top.specs.Reads.{ReadsOnly, failed_of};
-ghost use Rattle.prove_top.specs.Answer.{wanted_of, short_report, name_of, block_of, answer_to, report_of, names_asked, UnlessFault, IfFault, TellsFailed, IsUsage, IsAnswer, run_report, command_answer};
+ghost use Rattle.prove_top.specs.Answer.{block_wanted, wanted_of, short_report, trace_name, name_of, block_of, names_asked, sample_report, wrong_report, trace_report, Replays, ReplayAnswer, TextsAnswer, TaskAnswer, Answers, UnlessFault, IfFault, TellsFailed, IsUsage, IsAnswer, run_report};
 
 use crate::description::reset_of;
 use crate::gather::{Halt, Kind, Shortfall, Wanted, fetch_all};
 use crate::report::{Refusal, Report};
 use crate::sampled::{Run, sampled_run};
 use crate::verilog::drivers_of;
-use crate::words::{Proving, command_of, proving_of};
+use crate::words::{Task, Work, command_of, task_of};
 use bit_base::text::{Text, text_of};
 use std::alloc::{AllocError, Global};
 use std::convert::From;
 use std::vec::Vec;
 use tool_edge::depot::Depot;
 use trace_replay::block::Block;
+use trace_replay::fault::{TraceCode, TraceFault};
 use trace_replay::joint::first_difference;
+use trace_replay::read::read_trace;
+use trace_replay::replay::replay;
 use trace_replay::text::trace_text;
-use trace_replay::trace::trace_of_run;
+use trace_replay::trace::{Trace, trace_of_run};
 
 /// How many bytes a description, a ports file and a Verilog file may have.
 pub(crate) const DESCRIPTION_LIMIT: u32 = 1_048_576;
@@ -31,26 +36,29 @@ pub(crate) const PORTS_LIMIT: u32 = 65_536;
 
 pub(crate) const VERILOG_LIMIT: u32 = 1_048_576;
 
+/// How many bytes a trace may have.
+pub(crate) const TRACE_FILE_LIMIT: u32 = 16_777_216;
+
 /// The ports file of the first form.
 pub(crate) const PORTS: &[u8] =
     b"clock clk\nreset rst_n low 1\npsel psel\npenable penable\npwrite pwrite\npaddr paddr\npwdata pwdata\nprdata prdata\npready pready\npslverr pslverr\nwait 0\nunmapped zero\n\nout c.v v\n";
 
-/// The files of a command.
-fn wanted_of(alloc: Global, command: &Proving) -> Result<Vec<Wanted>, AllocError>
-    ensures { IfOk result (λ wanted. wanted.items ≡ wanted_of command.now) }
+/// The files of a task's block.
+fn block_wanted(alloc: Global, task: &Task) -> Result<Vec<Wanted>, AllocError>
+    ensures { IfOk result (λ wanted. wanted.items ≡ block_wanted task.now) }
 {
     let description = Wanted {
-        name: command.rdl.copy(alloc)?,
+        name: task.rdl.copy(alloc)?,
         limit: DESCRIPTION_LIMIT,
         kind: Kind::Description,
     };
     let ports = Wanted {
-        name: command.ports.copy(alloc)?,
+        name: task.ports.copy(alloc)?,
         limit: PORTS_LIMIT,
         kind: Kind::Ports,
     };
     let verilog = Wanted {
-        name: command.verilog.copy(alloc)?,
+        name: task.verilog.copy(alloc)?,
         limit: VERILOG_LIMIT,
         kind: Kind::Verilog,
     };
@@ -59,6 +67,25 @@ fn wanted_of(alloc: Global, command: &Proving) -> Result<Vec<Wanted>, AllocError
     wanted.push(ports)?;
     wanted.push(verilog)?;
     Ok(wanted)
+}
+
+/// The files of a task, in the order of its words: a trace comes first.
+fn wanted_of(alloc: Global, task: &Task) -> Result<Vec<Wanted>, AllocError>
+    ensures { IfOk result (λ wanted. wanted.items ≡ wanted_of task.now) }
+{
+    let mut wanted = block_wanted(alloc, task)?;
+    match &task.work {
+        Work::Sample(_) => Ok(wanted),
+        Work::Replay(trace) => {
+            let first = Wanted {
+                name: trace.copy(alloc)?,
+                limit: TRACE_FILE_LIMIT,
+                kind: Kind::Trace,
+            };
+            wanted.insert(0, first)?;
+            Ok(wanted)
+        }
+    }
 }
 
 /// The report of what the files lack.
@@ -70,17 +97,29 @@ fn short_report(short: Shortfall) -> Report
         Shortfall::Long(Kind::Description, name) => Report::Refused(Refusal::RdlSize, name),
         Shortfall::Long(Kind::Ports, name) => Report::Refused(Refusal::PortSize, name),
         Shortfall::Long(Kind::Verilog, name) => Report::Refused(Refusal::VlogSize, name),
+        Shortfall::Long(Kind::Trace, name) => Report::Refused(Refusal::TraceSize, name),
     }
 }
 
-/// The name of a command's file of this kind.
-fn name_of(command: &Proving, kind: Kind) -> &Text
-    ensures { result.now ≡ name_of command.now kind }
+/// The name of the trace, where there is one, else this one.
+fn trace_name<'a>(work: &'a Work, other: &'a Text) -> &'a Text
+    ensures { result.now ≡ trace_name work.now other.now }
+{
+    match work {
+        Work::Sample(_) => other,
+        Work::Replay(trace) => trace,
+    }
+}
+
+/// The name of a task's file of this kind.
+fn name_of(task: &Task, kind: Kind) -> &Text
+    ensures { result.now ≡ name_of task.now kind }
 {
     match kind {
-        Kind::Description => &command.rdl,
-        Kind::Ports => &command.ports,
-        Kind::Verilog => &command.verilog,
+        Kind::Description => &task.rdl,
+        Kind::Ports => &task.ports,
+        Kind::Verilog => &task.verilog,
+        Kind::Trace => trace_name(&task.work, &task.rdl),
     }
 }
 
@@ -133,36 +172,127 @@ fn run_report(alloc: Global, block: &Block, seed: u64) -> Result<Report, AllocEr
     }
 }
 
-/// The report of a command on its three texts.
-#[tactic(auto, unfolding(crate::specs::Answer::answer_to))]
-fn answer_to(
+/// The report of a sampled run on three texts.
+fn sample_report(
     alloc: Global,
-    command: &Proving,
+    task: &Task,
+    seed: u64,
     rdl: &[u8],
     ports: &[u8],
     verilog: &[u8],
 ) -> Result<Report, AllocError>
-    ensures report { IfOk result (λ report. report ≡ answer_to command.now rdl.now ports.now verilog.now) }
+    ensures report { IfOk result (λ report. report ≡ sample_report task.now seed (block_of rdl.now ports.now verilog.now)) }
     ensures kind { IfOk result IsAnswer }
 {
     match block_of(alloc, rdl, ports, verilog)? {
-        Ok(block) => run_report(alloc, &block, command.seed),
-        Err(kind) => Ok(Report::Refused(Refusal::NotYet, name_of(command, kind).copy(alloc)?)),
+        Ok(block) => run_report(alloc, &block, seed),
+        Err(kind) => Ok(Report::Refused(Refusal::NotYet, name_of(task, kind).copy(alloc)?)),
     }
 }
 
-/// The report of a command: its files are fetched, and answered.
-fn prove<D: Depot>(alloc: Global, command: &Proving, depot: &mut D) -> Result<Report, AllocError>
+/// The report of a trace that is refused.
+fn wrong_report(
+    alloc: Global,
+    name: &Text,
+    code: TraceCode,
+    line: u32,
+) -> Result<Report, AllocError>
+    ensures report { IfOk result (λ report. report ≡ wrong_report name.now code line) }
+    ensures kind { IfOk result IsAnswer }
+{
+    let name = name.copy(alloc)?;
+    match code {
+        TraceCode::TraceSize => Ok(Report::Refused(Refusal::TraceSize, name)),
+        _ => Ok(Report::WrongTrace(code, line, name)),
+    }
+}
+
+/// The report of a legal trace of a block.
+fn trace_report(alloc: Global, block: &Block, trace: &Trace) -> Result<Report, AllocError>
+    requires { IsLegalTrace block.now trace.now.start.items (lists_of trace.now.edges.items) }
+    ensures report { IfOk result (λ report. report ≡ trace_report (length trace.now.edges.items) (trace_difference block.now trace.now.start.items (lists_of trace.now.edges.items))) }
+    ensures kind { IfOk result IsAnswer }
+{
+    let found = replay(alloc, block, trace)?;
+    match found {
+        Some((edge, difference)) => Ok(Report::Differs(edge, difference)),
+        None => Ok(Report::Agrees(trace.edges.len())),
+    }
+}
+
+/// The report of a trace text on a block.
+fn replay_report(
+    alloc: Global,
+    block: &Block,
+    name: &Text,
+    text: &[u8],
+) -> Result<Report, AllocError>
+    ensures report { IfOk result (λ report. Replays block.now name.now text.now report) }
+    ensures kind { IfOk result IsAnswer }
+{
+    match read_trace(alloc, text, block) {
+        Ok(trace) => trace_report(alloc, block, &trace),
+        Err(TraceFault::NoMemory) => Err(AllocError),
+        Err(TraceFault::At { code, line }) => wrong_report(alloc, name, code, line),
+    }
+}
+
+/// The report of a trace on four texts.
+fn replay_answer(
+    alloc: Global,
+    task: &Task,
+    name: &Text,
+    text: &[u8],
+    rdl: &[u8],
+    ports: &[u8],
+    verilog: &[u8],
+) -> Result<Report, AllocError>
+    ensures report { IfOk result (λ report. ReplayAnswer task.now name.now text.now (block_of rdl.now ports.now verilog.now) report) }
+    ensures kind { IfOk result IsAnswer }
+{
+    let block = block_of(alloc, rdl, ports, verilog)?;
+    match block {
+        Ok(block) => replay_report(alloc, &block, name, text),
+        Err(kind) => Ok(Report::Refused(Refusal::NotYet, name_of(task, kind).copy(alloc)?)),
+    }
+}
+
+/// The report of a task on its texts.
+fn texts_report(
+    alloc: Global,
+    task: &Task,
+    files: &[Vec<u8>],
+) -> Result<Report, AllocError>
+    requires { length files.now ≡ length (wanted_of task.now) }
+    ensures report { IfOk result (λ report. TextsAnswer task.now (contents files.now) report) }
+    ensures kind { IfOk result IsAnswer }
+{
+    match &task.work {
+        Work::Sample(seed) => sample_report(alloc, task, *seed, &files[0], &files[1], &files[2]),
+        Work::Replay(trace) => replay_answer(
+            alloc,
+            task,
+            trace,
+            &files[0],
+            &files[1],
+            &files[2],
+            &files[3],
+        ),
+    }
+}
+
+/// The report of a task: its files are fetched, and answered.
+fn work_report<D: Depot>(alloc: Global, task: &Task, depot: &mut D) -> Result<Report, AllocError>
     ensures files { D.files depot.new ≡ D.files depot.old }
-    ensures answer { IfSome (D.files depot.old) (λ files. IfOk result (λ report. UnlessFault report (report ≡ command_answer files command.now))) }
+    ensures answer { IfSome (D.files depot.old) (λ files. IfOk result (λ report. UnlessFault report (TaskAnswer files task.now report))) }
     ensures usage { IfOk result (λ report. IsUsage report → ⊥) }
-    ensures calls { ReadsOnly (names_of (wanted_of command.now)) (D.calls depot.old) (D.calls depot.new) (λ added. IfOk result (λ report. TellsFailed report (failed_of added))) }
+    ensures calls { ReadsOnly (names_of (wanted_of task.now)) (D.calls depot.old) (D.calls depot.new) (λ added. IfOk result (λ report. TellsFailed report (failed_of added))) }
     ensures count { D.faults depot.old ≤ D.faults depot.new }
     ensures rose { IfOk result (λ report. IfFault report (Rose (D.faults depot.old) (D.faults depot.new))) }
 {
-    let wanted = wanted_of(alloc, command)?;
+    let wanted = wanted_of(alloc, task)?;
     match fetch_all(alloc, depot, &wanted) {
-        Ok(files) => answer_to(alloc, command, &files[0], &files[1], &files[2]),
+        Ok(files) => texts_report(alloc, task, &files),
         Err(Halt::Short(short)) => Ok(short_report(short)),
         Err(Halt::Failed(name)) => Ok(Report::FaultRead(name)),
         Err(Halt::NoMemory) => Err(AllocError),
@@ -176,7 +306,7 @@ pub(crate) fn plan<D: Depot>(
     depot: &mut D,
 ) -> Result<Report, AllocError>
     ensures files { D.files depot.new ≡ D.files depot.old }
-    ensures answer { IfSome (D.files depot.old) (λ files. IfOk result (λ report. UnlessFault report (report ≡ report_of files words.now))) }
+    ensures answer { IfSome (D.files depot.old) (λ files. IfOk result (λ report. UnlessFault report (Answers files words.now report))) }
     ensures usage { IfOk result (λ report. IsUsage report ↔ (command_of words.now ≡ None)) }
     ensures calls { ReadsOnly (names_asked words.now) (D.calls depot.old) (D.calls depot.new) (λ added. IfOk result (λ report. TellsFailed report (failed_of added))) }
     ensures count { D.faults depot.old ≤ D.faults depot.new }
@@ -185,8 +315,9 @@ pub(crate) fn plan<D: Depot>(
     let Some(command) = command_of(alloc, words)? else {
         return Ok(Report::Usage);
     };
-    match proving_of(command) {
-        Some(proving) => prove(alloc, &proving, depot),
+    let task = task_of(command);
+    match task {
+        Some(task) => work_report(alloc, &task, depot),
         None => Ok(Report::Refused(Refusal::NotYet, text_of(alloc, b"words".as_slice())?)),
     }
 }

@@ -1,11 +1,12 @@
 //! What a command reports: a status, and a line.
 
 ghost use Rattle.std.specs.Prelude.{◌≡◌, ◌++◌, IfOk};
-ghost use Rattle.prove_top.specs.Report.{status_number, status_of, heading_of, trace_of, line_of, refusal_head, refusal_tail, difference_text, refuted_line};
+ghost use Rattle.prove_top.specs.Report.{status_number, status_of, heading_of, trace_of, line_of, refusal_head, refusal_tail, difference_text, refuted_line, agrees_line, differs_line, wrong_line, code_head, code_tail};
 
 use bit_base::text::Text;
 use std::alloc::{AllocError, Global};
 use std::vec::Vec;
+use trace_replay::fault::TraceCode;
 use trace_replay::joint::Difference;
 
 /// How a command ends; the number of a program's exit status is its place, from 0.
@@ -37,24 +38,29 @@ impl Status {
     }
 }
 
-/// Why a command is refused: the description, the Verilog or the ports file is too long, a file
-/// isn't there, or a form isn't read yet.
+/// Why a command is refused: the description, the Verilog, the ports file or the trace is too long, a
+/// file isn't there, or a form isn't read yet.
 #[derive(Clone, Copy)]
 pub(crate) enum Refusal {
     RdlSize,
     VlogSize,
     PortSize,
+    TraceSize,
     NoFile,
     NotYet,
 }
 
-/// What a command reports; `Refuted` has the edge, the difference and the text of the trace.
+/// What a command reports; `Refuted` has the edge, the difference and the text of the trace, `Agrees`
+/// the number of edges of a trace, and `WrongTrace` why, where and which trace is refused.
 #[derive(Drop)]
 pub(crate) enum Report {
     Usage,
     Refused(Refusal, Text),
+    WrongTrace(TraceCode, u32, Text),
     Refuted(usize, Difference, Text),
     Simulated,
+    Agrees(usize),
+    Differs(usize, Difference),
     FaultRead(Text),
 }
 
@@ -65,8 +71,9 @@ impl Report {
     {
         match self {
             Report::Usage => Status::Usage,
-            Report::Refused(_, _) => Status::Refused,
-            Report::Refuted(_, _, _) => Status::No,
+            Report::Refused(_, _) | Report::WrongTrace(_, _, _) => Status::Refused,
+            Report::Refuted(_, _, _) | Report::Differs(_, _) => Status::No,
+            Report::Agrees(_) => Status::Yes,
             Report::Simulated => Status::Unknown,
             Report::FaultRead(_) => Status::Fault,
         }
@@ -105,7 +112,10 @@ impl Report {
                 file.as_bytes(),
                 refusal_tail(*refusal),
             ),
+            Report::WrongTrace(code, line, file) => wrong_line(alloc, *code, *line, file.as_bytes()),
             Report::Refuted(edge, difference, _) => refuted_line(alloc, *edge, *difference),
+            Report::Agrees(edges) => agrees_line(alloc, *edges),
+            Report::Differs(edge, difference) => differs_line(alloc, *edge, *difference),
             Report::Simulated => b"unknown simulated".as_slice().to_vec(alloc),
             Report::FaultRead(file) => joined(
                 alloc,
@@ -135,6 +145,7 @@ fn refusal_head(refusal: Refusal) -> &'static [u8]
         Refusal::RdlSize => b"refused 108 ".as_slice(),
         Refusal::VlogSize => b"refused 213 ".as_slice(),
         Refusal::PortSize => b"refused 307 ".as_slice(),
+        Refusal::TraceSize => b"refused 504 ".as_slice(),
         Refusal::NoFile => b"refused 701 ".as_slice(),
         Refusal::NotYet => b"refused 801 ".as_slice(),
     }
@@ -147,6 +158,7 @@ fn refusal_tail(refusal: Refusal) -> &'static [u8]
         Refusal::RdlSize => b":0:0 RdlSize".as_slice(),
         Refusal::VlogSize => b":0:0 VlogSize".as_slice(),
         Refusal::PortSize => b":0:0 PortSize".as_slice(),
+        Refusal::TraceSize => b":0:0 TraceSize".as_slice(),
         Refusal::NoFile => b":0:0 NoFile".as_slice(),
         Refusal::NotYet => b":0:0 NotYet".as_slice(),
     }
@@ -175,6 +187,69 @@ fn refuted_line(alloc: Global, edge: usize, difference: Difference) -> Result<Ve
         number.as_bytes(),
         difference_text(difference),
     )
+}
+
+/// The line of a trace whose run has no difference at any of so many edges.
+fn agrees_line(alloc: Global, edges: usize) -> Result<Vec<u8>, AllocError>
+    ensures { IfOk result (λ line. line.items ≡ agrees_line edges) }
+{
+    let number = edges.to_string(alloc)?;
+    joined(
+        alloc,
+        b"agrees edges=".as_slice(),
+        number.as_bytes(),
+        b"".as_slice(),
+    )
+}
+
+/// The line of a trace whose run has a difference.
+fn differs_line(alloc: Global, edge: usize, difference: Difference) -> Result<Vec<u8>, AllocError>
+    ensures { IfOk result (λ line. line.items ≡ differs_line edge difference) }
+{
+    let number = edge.to_string(alloc)?;
+    joined(
+        alloc,
+        b"differs edge=".as_slice(),
+        number.as_bytes(),
+        difference_text(difference),
+    )
+}
+
+/// The number of a refusal of a trace, and its name.
+fn code_head(code: TraceCode) -> &'static [u8]
+    ensures { result.now ≡ code_head code }
+{
+    match code {
+        TraceCode::TraceLine => b"refused 501 ".as_slice(),
+        TraceCode::TraceName => b"refused 502 ".as_slice(),
+        TraceCode::TraceIllegal => b"refused 503 ".as_slice(),
+        TraceCode::TraceSize => b"refused 504 ".as_slice(),
+    }
+}
+
+fn code_tail(code: TraceCode) -> &'static [u8]
+    ensures { result.now ≡ code_tail code }
+{
+    match code {
+        TraceCode::TraceLine => b":1 TraceLine".as_slice(),
+        TraceCode::TraceName => b":1 TraceName".as_slice(),
+        TraceCode::TraceIllegal => b":1 TraceIllegal".as_slice(),
+        TraceCode::TraceSize => b":1 TraceSize".as_slice(),
+    }
+}
+
+/// The line of a trace that is refused at one of its lines.
+fn wrong_line(
+    alloc: Global,
+    code: TraceCode,
+    line: u32,
+    file: &[u8],
+) -> Result<Vec<u8>, AllocError>
+    ensures { IfOk result (λ text. text.items ≡ wrong_line code line file.now) }
+{
+    let number = line.to_string(alloc)?;
+    let place = joined(alloc, file, b":".as_slice(), number.as_bytes())?;
+    joined(alloc, code_head(code), &place, code_tail(code))
 }
 
 /// The line of want of memory.

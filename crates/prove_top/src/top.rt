@@ -1,19 +1,14 @@
 //! The top call.
 
-ghost use Rattle.std.specs.Prelude.{◌≡◌, ◌≢◌, ◌≤◌, ◌↔◌, ◌⊎◌, ℕ, List, [], Some, None, Ok, Err, IfSome, slice_index_or, codes};
+ghost use Rattle.std.specs.Prelude.{◌≡◌, ◌≤◌, ◌↔◌, ◌⊎◌, ℕ, List, Some, None, IfSome};
 ghost use Rattle.tool_edge.specs.Causes.{Rose};
-ghost use Rattle.tool_edge.specs.Written.{after_put, AppendsPart};
-ghost use Rattle.prove_top.specs.Answer.{block_of, name_of, names_asked, report_of, short_report, wanted_of};
-ghost use Rattle.prove_top.specs.Clauses.{Added, IsFaultOrMemory, NoStores, PutsFault, PutsPart, PutsPartThenMemory, RefutedReplays, SampledAgrees, SampledDiffers, WholeButTheLast, asked_block};
-ghost use Rattle.prove_top.specs.Ends.{Ends, EndsPut, Ran, UnlessFailed};
-ghost use Rattle.prove_top.specs.Gather.{gathered};
+ghost use Rattle.tool_edge.specs.Written.{AppendsPart};
+ghost use Rattle.prove_top.specs.Answer.{names_asked};
+ghost use Rattle.prove_top.specs.Clauses.{Added, IsFaultOrMemory, NoStores, PutsFault, PutsPart, PutsPartThenMemory, RefutedReplays, ReplayAgrees, ReplayDiffers, SampledAgrees, SampledDiffers, WholeButTheLast};
+ghost use Rattle.prove_top.specs.Ends.{Ends, EndsPut, PutsAnswer, Ran, UnlessFailed};
 ghost use Rattle.prove_top.specs.Reads.{AreReads, ReadsOnly, failed_of};
-ghost use Rattle.prove_top.specs.Report.{status_of, trace_of, text_of};
-ghost use Rattle.prove_top.specs.Words.{command_of, proving_asked, proving_of};
-ghost use Rattle.prove_top.specs.declared.gather.Kind.{Kind};
-ghost use Rattle.prove_top.specs.declared.gather.Shortfall.{Shortfall};
-ghost use Rattle.prove_top.specs.declared.words.Command.{Command};
-ghost use Rattle.prove_top.specs.declared.words.Proving.{Proving};
+ghost use Rattle.prove_top.specs.Report.{status_of, trace_of};
+ghost use Rattle.prove_top.specs.Words.{command_of};
 
 use crate::plan::plan;
 use crate::report::{MEMORY_LINE, Refusal, Report, Status};
@@ -79,8 +74,7 @@ fn want_memory<S: Sink>(alloc: Global, out: &mut S) -> Status
 
 /// The top call, with what its end says of the report that was due.
 fn run<D: Depot, S: Sink>(alloc: Global, words: &[Text], depot: &mut D, out: &mut S) -> Status
-    ensures status { IfSome (D.files depot.old) (λ files. UnlessFailed result (result ≡ status_of (report_of files words.now))) }
-    ensures text { IfSome (D.files depot.old) (λ files. UnlessFailed result (S.written out.new ≡ after_put (S.written out.old) (text_of (report_of files words.now)))) }
+    ensures answer { IfSome (D.files depot.old) (λ files. UnlessFailed result (PutsAnswer files words.now (S.written out.old) (S.written out.new) result)) }
     ensures usage { UnlessFailed result ((result ≡ Status.Usage) ↔ (command_of words.now ≡ None)) }
     ensures fault { result ≡ Status.Fault → Rose (D.faults depot.old) (D.faults depot.new) ⊎ Rose (S.faults out.old) (S.faults out.new) }
     ensures reads { ReadsOnly (names_asked words.now) (D.calls depot.old) (D.calls depot.new) (Ran (D.files depot.old) words.now (S.written out.old) (S.written out.new) (S.faults out.old) (S.faults out.new) result) }
@@ -118,22 +112,18 @@ pub fn run_tool<D: Depot, S: Sink>(
     ensures report_prefix { Added (D.calls depot.old) (D.calls depot.new) (λ added. result.status ≡ Status.Fault → PutsPart (D.files depot.old) words.now (failed_of added) (S.written out.old) (S.written out.new)) }
     ensures no_memory_bytes { Added (D.calls depot.old) (D.calls depot.new) (λ added. result.status ≡ Status.NoMemory → PutsPartThenMemory (D.files depot.old) words.now (failed_of added) (S.written out.old) (S.written out.new)) }
 
-    // Under every other status, where the depot tells its files, the bytes put are exactly the report
-    // that words and files give: the line, and under status 1 the trace.
-    ensures report_put { IfSome (D.files depot.old) (λ files. UnlessFailed result.status (S.written out.new ≡ after_put (S.written out.old) (text_of (report_of files words.now)))) }
+    // Under every other status, where the depot tells its files, the bytes put are exactly a report that
+    // words and files give: its line, and under status 1 of `prove` the trace.
+    ensures report_put { IfSome (D.files depot.old) (λ files. UnlessFailed result.status (PutsAnswer files words.now (S.written out.old) (S.written out.new) result.status)) }
 
     // When each of these statuses comes.
     ensures usage_iff { UnlessFailed result.status ((result.status ≡ Status.Usage) ↔ (command_of words.now ≡ None)) }
-    ensures refused_iff { IfSome (D.files depot.old) (λ files. UnlessFailed result.status ((result.status ≡ Status.Refused) ↔ ((command_of words.now ≢ None) × (asked_block files words.now ≡ None)))) }
-    ensures refuted_sampled_iff { IfSome (D.files depot.old) (λ files. UnlessFailed result.status ((result.status ≡ Status.No) ↔ SampledDiffers files words.now)) }
-    ensures refuted_replays { IfSome (D.files depot.old) (λ files. result.status ≡ Status.No → RefutedReplays files words.now (S.written out.old) (S.written out.new)) }
     ensures simulated_iff { IfSome (D.files depot.old) (λ files. UnlessFailed result.status ((result.status ≡ Status.Unknown) ↔ SampledAgrees files words.now)) }
+    ensures agrees_iff { IfSome (D.files depot.old) (λ files. UnlessFailed result.status ((result.status ≡ Status.Yes) ↔ ReplayAgrees files words.now)) }
+    ensures refuted_and_differs_iff { IfSome (D.files depot.old) (λ files. UnlessFailed result.status ((result.status ≡ Status.No) ↔ (SampledDiffers files words.now ⊎ ReplayDiffers files words.now))) }
 
-    // The refusals: a file that isn't there or is too long, words that aren't a command, and a file
-    // that isn't of the first form.
-    ensures no_file_and_long_file { IfSome (D.files depot.old) (λ files. (command : Proving) (short : Shortfall) → proving_asked words.now ≡ Some command → gathered files (wanted_of command) ≡ Err short → UnlessFailed result.status (S.written out.new ≡ after_put (S.written out.old) (text_of (short_report short)))) }
-    ensures not_yet_words { IfSome (D.files depot.old) (λ files. (command : Command) → command_of words.now ≡ Some command → proving_of command ≡ None → UnlessFailed result.status (S.written out.new ≡ after_put (S.written out.old) (text_of (Report.Refused Refusal.NotYet (codes "words"))))) }
-    ensures not_yet_file { IfSome (D.files depot.old) (λ files. (command : Proving) (texts : List (List ℕ)) (kind : Kind) → proving_asked words.now ≡ Some command → gathered files (wanted_of command) ≡ Ok texts → block_of (slice_index_or texts 0 []) (slice_index_or texts 1 []) (slice_index_or texts 2 []) ≡ Err kind → UnlessFailed result.status (S.written out.new ≡ after_put (S.written out.old) (text_of (Report.Refused Refusal.NotYet (name_of command kind))))) }
+    // The trace that follows a refuted line replays to the difference of that line.
+    ensures refuted_replays { IfSome (D.files depot.old) (λ files. result.status ≡ Status.No → SampledDiffers files words.now → RefutedReplays files words.now (S.written out.old) (S.written out.new)) }
 
     // Nothing is kept beside the status, and neither count falls.
     ensures evidence_iff { result.evidence ≡ Evidence.Nothing }

@@ -2,7 +2,7 @@
 
 ghost use Rattle.std.specs.Prelude.{◌≡◌, ◌<◌, ◌≤◌, length, IfOk, IfSome};
 ghost use Rattle.std.specs.List.{position};
-ghost use Rattle.prove_top.specs.Words.{all_graphic, all_names, check_of, command_of, files_of, fresh_name, fresh_number, in_range, is_graphic, is_name, is_option, is_plain, map_of, option_place, options_of, prove_of, proving_of, replay_of, sample_of, with_option};
+ghost use Rattle.prove_top.specs.Words.{all_graphic, all_names, check_of, command_of, files_of, fresh_name, fresh_number, in_range, is_graphic, is_name, is_option, is_plain, map_of, option_place, options_of, prove_of, replay_of, sample_of, task_of, with_option};
 
 use crate::numbers::plain_number;
 use bit_base::text::Text;
@@ -47,13 +47,20 @@ pub(crate) enum Command {
     Sample(u64),
 }
 
-/// A command `prove` that is answered: the names of its three files, and the seed of the sampled run.
+/// What is done with a block: its sampled run under this seed, or the run of the trace of this name.
 #[derive(Drop)]
-pub(crate) struct Proving {
+pub(crate) enum Work {
+    Sample(u64),
+    Replay(Text),
+}
+
+/// A command that is answered: the names of the three files of its block, and what is done with it.
+#[derive(Drop)]
+pub(crate) struct Task {
     pub rdl: Text,
     pub ports: Text,
     pub verilog: Text,
-    pub seed: u64,
+    pub work: Work,
 }
 
 /// Whether this byte may stand in a name.
@@ -372,20 +379,31 @@ fn is_plain(options: &Options) -> bool
         && options.trace.is_none()
 }
 
-/// The command `prove` that is answered, where it is this one.
-pub(crate) fn proving_of(command: Command) -> Option<Proving>
-    ensures { result ≡ proving_of command }
+/// The task of a command, where it is one that is answered.
+pub(crate) fn task_of(command: Command) -> Option<Task>
+    ensures { result ≡ task_of command }
 {
     match command {
         Command::Prove(names, options) => {
             if names.others > 0 || !is_plain(&options) {
                 return None;
             }
-            Some(Proving {
+            Some(Task {
                 rdl: names.rdl,
                 ports: names.ports,
                 verilog: names.verilog,
-                seed: options.seed.unwrap_or(1),
+                work: Work::Sample(options.seed.unwrap_or(1)),
+            })
+        }
+        Command::Replay(trace, names) => {
+            if names.others > 0 {
+                return None;
+            }
+            Some(Task {
+                rdl: names.rdl,
+                ports: names.ports,
+                verilog: names.verilog,
+                work: Work::Replay(trace),
             })
         }
         _ => None,

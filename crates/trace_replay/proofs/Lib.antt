@@ -11,5 +11,5 @@ mod FormLemmas
 mod ReadLemmas
 mod AllowedLemmas
 mod RunLemmas
-mod TraceTheorem
+pub mod TraceTheorem
 pub mod CutLemmas

@@ -67,13 +67,13 @@ module _ (block : FlatBlock) (bytes : List ℕ) where
   whole_of : (start : List Bool) (edges : List (List Bool)) → HasSizes start edges → bytes ≡ trace_text start edges → IsWhole (lines_of bytes) (suc (suc (length edges)))
   whole_of start edges sizes text = whole (lines_of bytes) start edges sizes (trace-lines bytes start edges text)
 
-  no-line : (start : List Bool) (edges : List (List Bool)) → HasSizes start edges → bytes ≡ trace_text start edges → (line : ℕ) → IsWrongLine (lines_of bytes) line → ⊥
+  pub no-line : (start : List Bool) (edges : List (List Bool)) → HasSizes start edges → bytes ≡ trace_text start edges → (line : ℕ) → IsWrongLine (lines_of bytes) line → ⊥
   no-line start edges sizes text line = whole-or-line (lines_of bytes) (suc (suc (length edges))) line (whole_of start edges sizes text)
 
-  no-name : (start : List Bool) (edges : List (List Bool)) → HasSizes start edges → bytes ≡ trace_text start edges → (line : ℕ) → IsWrongName (lines_of bytes) line → ⊥
+  pub no-name : (start : List Bool) (edges : List (List Bool)) → HasSizes start edges → bytes ≡ trace_text start edges → (line : ℕ) → IsWrongName (lines_of bytes) line → ⊥
   no-name start edges sizes text line = whole-or-name (lines_of bytes) (suc (suc (length edges))) line (whole_of start edges sizes text)
 
-  same_trace : (s t : List Bool) (a b : List (List Bool)) → HasSizes s a → HasSizes t b → bytes ≡ trace_text s a → bytes ≡ trace_text t b → (s ≡ t) × (a ≡ b)
+  pub same_trace : (s t : List Bool) (a b : List (List Bool)) → HasSizes s a → HasSizes t b → bytes ≡ trace_text s a → bytes ≡ trace_text t b → (s ≡ t) × (a ≡ b)
   same_trace s t a b one two p q = one-trace s t a b one two (sym (trace-lines bytes s a p) ∙ trace-lines bytes t b q)
 
   moved : (s t : List Bool) (a b : List (List Bool)) (n : ℕ) → s ≡ t → a ≡ b → IsFirstForbidden block s a n → IsFirstForbidden block t b n
@@ -82,7 +82,7 @@ module _ (block : FlatBlock) (bytes : List ℕ) where
       let Q : List (List Bool) → Type 0 = λ x. IsFirstForbidden block s x n in
       subst P p (subst Q q first)
 
-  no-illegal : (start : List Bool) (edges : List (List Bool)) → IsLegalTrace block start edges → bytes ≡ trace_text start edges → (line : ℕ) → IsIllegal block bytes line → ⊥
+  pub no-illegal : (start : List Bool) (edges : List (List Bool)) → IsLegalTrace block start edges → bytes ≡ trace_text start edges → (line : ℕ) → IsIllegal block bytes line → ⊥
   no-illegal start edges legal text line wrong =
       let same = same_trace wrong.start start wrong.edges edges wrong.sizes legal.sizes wrong.text text in
       none-forbidden block start edges wrong.edge legal.allowed (moved wrong.start start wrong.edges edges wrong.edge same.0 same.1 wrong.first)

@@ -1,5 +1,5 @@
 use Rattle.prove_top.specs.declared.report.Status.TheVariants as status
-use Rattle.prove_top.proofs.ClauseLemmas.{added-by, added-reads, reads-stop, reads-stores, last_failed, fault_report, fault_without, report_prefix, no_memory_bytes, status-iff, differs-status, agrees-status, refused-status, short-put, words-put, form-put}
+use Rattle.prove_top.proofs.ClauseLemmas.{added-by, added-reads, reads-stop, reads-stores, last_failed, fault_report, fault_without, report_prefix, no_memory_bytes, status-iff, unknown-status, agrees-status, differs-status}
 use Rattle.prove_top.proofs.RefutedLemmas.{refuted-put}
 use Rattle.prove_top.proofs.top.run_tool.Goals as goal
 
@@ -27,23 +27,14 @@ returns-clause-report_prefix g c = added-by _ _ _ _ _ (λ calls reads ran. repor
 pub returns-clause-no_memory_bytes : goal.returns-clause-no_memory_bytes
 returns-clause-no_memory_bytes g c = added-by _ _ _ _ _ (λ calls reads ran. no_memory_bytes _ _ _ _ _ _ _ calls ran) c.run-status.ensures.reads
 
-pub returns-clause-refused_iff : goal.returns-clause-refused_iff
-returns-clause-refused_iff g c = status-iff _ _ status.Refused c.args.words.now _ (λ files. refused-status files c.args.words.now) c.run-status.ensures.status
-
-pub returns-clause-refuted_sampled_iff : goal.returns-clause-refuted_sampled_iff
-returns-clause-refuted_sampled_iff g c = status-iff _ _ status.No c.args.words.now _ (λ files. differs-status files c.args.words.now) c.run-status.ensures.status
-
 pub returns-clause-simulated_iff : goal.returns-clause-simulated_iff
-returns-clause-simulated_iff g c = status-iff _ _ status.Unknown c.args.words.now _ (λ files. agrees-status files c.args.words.now) c.run-status.ensures.status
+returns-clause-simulated_iff g c = status-iff _ _ status.Unknown c.args.words.now _ _ _ (unknown-status c.args.words.now) c.run-status.ensures.answer
 
-pub returns-clause-no_file_and_long_file : goal.returns-clause-no_file_and_long_file
-returns-clause-no_file_and_long_file g c = short-put _ _ c.args.words.now _ _ c.run-status.ensures.text
+pub returns-clause-agrees_iff : goal.returns-clause-agrees_iff
+returns-clause-agrees_iff g c = status-iff _ _ status.Yes c.args.words.now _ _ _ (agrees-status c.args.words.now) c.run-status.ensures.answer
 
-pub returns-clause-not_yet_words : goal.returns-clause-not_yet_words
-returns-clause-not_yet_words g c = words-put _ _ c.args.words.now _ _ c.run-status.ensures.text
-
-pub returns-clause-not_yet_file : goal.returns-clause-not_yet_file
-returns-clause-not_yet_file g c = form-put _ _ c.args.words.now _ _ c.run-status.ensures.text
+pub returns-clause-refuted_and_differs_iff : goal.returns-clause-refuted_and_differs_iff
+returns-clause-refuted_and_differs_iff g c = status-iff _ _ status.No c.args.words.now _ _ _ (differs-status c.args.words.now) c.run-status.ensures.answer
 
 pub returns-clause-refuted_replays : goal.returns-clause-refuted_replays
-returns-clause-refuted_replays g c = refuted-put _ _ c.args.words.now _ _ c.run-status.ensures.status c.run-status.ensures.text
+returns-clause-refuted_replays g c = refuted-put _ _ c.args.words.now _ _ c.run-status.ensures.answer
