@@ -258,11 +258,7 @@ fn replay_answer(
 }
 
 /// The report of a task on its texts.
-fn texts_report(
-    alloc: Global,
-    task: &Task,
-    files: &[Vec<u8>],
-) -> Result<Report, AllocError>
+fn texts_report(alloc: Global, task: &Task, files: &[Vec<u8>]) -> Result<Report, AllocError>
     requires { length files.now ≡ length (wanted_of task.now) }
     ensures report { IfOk result (λ report. TextsAnswer task.now (contents files.now) report) }
     ensures kind { IfOk result IsAnswer }
@@ -270,13 +266,7 @@ fn texts_report(
     match &task.work {
         Work::Sample(seed) => sample_report(alloc, task, *seed, &files[0], &files[1], &files[2]),
         Work::Replay(trace) => replay_answer(
-            alloc,
-            task,
-            trace,
-            &files[0],
-            &files[1],
-            &files[2],
-            &files[3],
+            alloc, task, trace, &files[0], &files[1], &files[2], &files[3],
         ),
     }
 }

@@ -112,7 +112,12 @@ impl Report {
                 file.as_bytes(),
                 refusal_tail(*refusal),
             ),
-            Report::WrongTrace(code, line, file) => wrong_line(alloc, *code, *line, file.as_bytes()),
+            Report::WrongTrace(code, line, file) => wrong_line(
+                alloc,
+                *code,
+                *line,
+                file.as_bytes(),
+            ),
             Report::Refuted(edge, difference, _) => refuted_line(alloc, *edge, *difference),
             Report::Agrees(edges) => agrees_line(alloc, *edges),
             Report::Differs(edge, difference) => differs_line(alloc, *edge, *difference),
@@ -239,12 +244,7 @@ fn code_tail(code: TraceCode) -> &'static [u8]
 }
 
 /// The line of a trace that is refused at one of its lines.
-fn wrong_line(
-    alloc: Global,
-    code: TraceCode,
-    line: u32,
-    file: &[u8],
-) -> Result<Vec<u8>, AllocError>
+fn wrong_line(alloc: Global, code: TraceCode, line: u32, file: &[u8]) -> Result<Vec<u8>, AllocError>
     ensures { IfOk result (λ text. text.items ≡ wrong_line code line file.now) }
 {
     let number = line.to_string(alloc)?;

@@ -386,6 +386,71 @@ fn each_row_has_its_answer(rt: HostRuntime) -> Result<(), Fail> {
     Ok(())
 }
 
+/// A trace of a read of 0 from address 0.
+const TRACE: &str =
+    "rdltrace 1\nstart v 00000000\nedge rst_n=0 psel=0 penable=0 pwrite=0 paddr=00 pwdata=00000000\nedge rst_n=1 psel=1 penable=0 pwrite=0 paddr=00 pwdata=00000000\nedge rst_n=1 psel=1 penable=1 pwrite=0 paddr=00 pwdata=00000000\nend\n";
+
+/// A right block under traces, legal and not, and under another reset value; and the trace that `prove`
+/// puts for a wrong block.
+#[test]
+fn traces_are_replayed(rt: HostRuntime) -> Result<(), Fail> {
+    let alloc = rt.alloc();
+    let line = b"replay t.trace a.rdl a.ports f.v".as_slice();
+    for (trace, status, text) in [
+        (TRACE, Status::Yes, "agrees edges=3\n"),
+        (
+            "rdltrace 1\nstart v 00000000\nend\n",
+            Status::Yes,
+            "agrees edges=0\n",
+        ),
+        (
+            "rdltrace 1\nstart v 00000000\nedge rst_n=0 psel=0 penable=0 pwrite=0 paddr=00 pwdata=00000000\nedge rst_n=1 psel=1 penable=0 pwrite=0 paddr=00 pwdata=00000000\nedge rst_n=1 psel=0 penable=1 pwrite=0 paddr=00 pwdata=00000000\nend\n",
+            Status::Refused,
+            "refused 503 t.trace:5:1 TraceIllegal\n",
+        ),
+        (
+            "rdltrace 1\nstart v 00000000\nedge rst_n=0 psel=0 penable=0 pwrite=0 paddr=00 pwdata=00000000\n",
+            Status::Refused,
+            "refused 501 t.trace:4:1 TraceLine\n",
+        ),
+        (
+            "rdltrace 1\nstart w 00000000\nend\n",
+            Status::Refused,
+            "refused 502 t.trace:2:1 TraceName\n",
+        ),
+    ] {
+        let mut depot = depot(alloc, READ_DATA.as_bytes(), NEXT.as_bytes())?;
+        depot.hold(
+            text_of(alloc, b"t.trace".as_slice())?,
+            trace.as_bytes().to_vec(alloc)?,
+        )?;
+        answers(&rt, alloc, line, &mut depot, status, text.as_bytes())?;
+    }
+    let mut three = depot(alloc, READ_DATA.as_bytes(), NEXT.as_bytes())?;
+    three.hold(
+        text_of(alloc, b"a.rdl".as_slice())?,
+        b"addrmap a { reg { regwidth=8; field { sw=rw; hw=r; } v[8]=3; } c; };\n"
+            .as_slice()
+            .to_vec(alloc)?,
+    )?;
+    three.hold(
+        text_of(alloc, b"t.trace".as_slice())?,
+        TRACE.as_bytes().to_vec(alloc)?,
+    )?;
+    let differs = b"differs edge=1 output c.v\n".as_slice();
+    answers(&rt, alloc, line, &mut three, Status::No, differs)?;
+    let wrong = format!(in alloc; "({NEXT} | (~{{8{{rst_n}}}} & 8'h01))")?;
+    let mut depot = depot(alloc, READ_DATA.as_bytes(), wrong.as_bytes())?;
+    let refuted = b"refuted edge=1 output c.v\n".as_slice();
+    let text = answers(&rt, alloc, COMMAND, &mut depot, Status::No, refuted)?;
+    depot.hold(
+        text_of(alloc, b"t.trace".as_slice())?,
+        text[refuted.len().min(text.len())..].to_vec(alloc)?,
+    )?;
+    answers(&rt, alloc, line, &mut depot, Status::No, differs)?;
+    Ok(())
+}
+
 /// The sum of two texts and five bytes: the two, combined.
 fn pair(alloc: Global, left: &[u8], right: &[u8]) -> Result<Vec<u8>, AllocError> {
     let mut text = b"(".as_slice().to_vec(alloc)?;
