@@ -12,3 +12,4 @@ mod EndLemmas
 mod ClauseLemmas
 mod WordLemmas
 mod RefutedLemmas
+mod RefusalLemmas

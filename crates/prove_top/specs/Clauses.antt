@@ -72,6 +72,10 @@ abbrev pub with_block : {A : Type 0} → A → Result Block Kind → Option (Blo
 with_block more (Ok block) = Some (block, more)
 with_block more (Err kind) = None
 
+abbrev pub made_of : Work → List (List ℕ) → Result Block Kind
+made_of (work.Sample seed) texts = block_of (text_at texts 0) (text_at texts 1) (text_at texts 2)
+made_of (work.Replay trace) texts = block_of (text_at texts 1) (text_at texts 2) (text_at texts 3)
+
 abbrev pub sample_block : Work → List (List ℕ) → Option (Block × ℕ)
 sample_block (work.Sample seed) texts = with_block seed (block_of (text_at texts 0) (text_at texts 1) (text_at texts 2))
 sample_block (work.Replay trace) texts = None

@@ -1,14 +1,19 @@
 //! The top call.
 
-ghost use Rattle.std.specs.Prelude.{◌≡◌, ◌≤◌, ◌↔◌, ◌⊎◌, ℕ, List, Some, None, IfSome};
+ghost use Rattle.std.specs.Prelude.{◌≡◌, ◌≤◌, ◌↔◌, ◌⊎◌, ℕ, List, Some, None, Ok, Err, IfSome, codes};
 ghost use Rattle.tool_edge.specs.Causes.{Rose};
-ghost use Rattle.tool_edge.specs.Written.{AppendsPart};
-ghost use Rattle.prove_top.specs.Answer.{names_asked};
-ghost use Rattle.prove_top.specs.Clauses.{Added, IsFaultOrMemory, NoStores, PutsFault, PutsPart, PutsPartThenMemory, RefutedReplays, ReplayAgrees, ReplayDiffers, SampledAgrees, SampledDiffers, WholeButTheLast};
+ghost use Rattle.tool_edge.specs.Written.{after_put, AppendsPart};
+ghost use Rattle.prove_top.specs.Answer.{name_of, names_asked, short_report, wanted_of};
+ghost use Rattle.prove_top.specs.Clauses.{Added, IsFaultOrMemory, NoStores, PutsFault, PutsPart, PutsPartThenMemory, RefutedReplays, ReplayAgrees, ReplayDiffers, SampledAgrees, SampledDiffers, WholeButTheLast, made_of};
 ghost use Rattle.prove_top.specs.Ends.{Ends, EndsPut, PutsAnswer, Ran, UnlessFailed};
 ghost use Rattle.prove_top.specs.Reads.{AreReads, ReadsOnly, failed_of};
-ghost use Rattle.prove_top.specs.Report.{status_of, trace_of};
-ghost use Rattle.prove_top.specs.Words.{command_of};
+ghost use Rattle.prove_top.specs.Gather.{gathered};
+ghost use Rattle.prove_top.specs.Report.{status_of, text_of, trace_of};
+ghost use Rattle.prove_top.specs.Words.{command_of, task_asked, task_of};
+ghost use Rattle.prove_top.specs.declared.gather.Kind.{Kind};
+ghost use Rattle.prove_top.specs.declared.gather.Shortfall.{Shortfall};
+ghost use Rattle.prove_top.specs.declared.words.Command.{Command};
+ghost use Rattle.prove_top.specs.declared.words.Task.{Task};
 
 use crate::plan::plan;
 use crate::report::{MEMORY_LINE, Refusal, Report, Status};
@@ -121,6 +126,12 @@ pub fn run_tool<D: Depot, S: Sink>(
     ensures simulated_iff { IfSome (D.files depot.old) (λ files. UnlessFailed result.status ((result.status ≡ Status.Unknown) ↔ SampledAgrees files words.now)) }
     ensures agrees_iff { IfSome (D.files depot.old) (λ files. UnlessFailed result.status ((result.status ≡ Status.Yes) ↔ ReplayAgrees files words.now)) }
     ensures refuted_and_differs_iff { IfSome (D.files depot.old) (λ files. UnlessFailed result.status ((result.status ≡ Status.No) ↔ (SampledDiffers files words.now ⊎ ReplayDiffers files words.now))) }
+
+    // The refusals: a file that isn't there or is too long, words that aren't answered yet, and a file
+    // that isn't of the first form.
+    ensures no_file_and_long_file { IfSome (D.files depot.old) (λ files. (task : Task) (short : Shortfall) → task_asked words.now ≡ Some task → gathered files (wanted_of task) ≡ Err short → UnlessFailed result.status (S.written out.new ≡ after_put (S.written out.old) (text_of (short_report short)))) }
+    ensures not_yet_words { IfSome (D.files depot.old) (λ files. (command : Command) → command_of words.now ≡ Some command → task_of command ≡ None → UnlessFailed result.status (S.written out.new ≡ after_put (S.written out.old) (text_of (Report.Refused Refusal.NotYet (codes "words"))))) }
+    ensures not_yet_file { IfSome (D.files depot.old) (λ files. (task : Task) (texts : List (List ℕ)) (kind : Kind) → task_asked words.now ≡ Some task → gathered files (wanted_of task) ≡ Ok texts → made_of task.work texts ≡ Err kind → UnlessFailed result.status (S.written out.new ≡ after_put (S.written out.old) (text_of (Report.Refused Refusal.NotYet (name_of task kind))))) }
 
     // The trace that follows a refuted line replays to the difference of that line.
     ensures refuted_replays { IfSome (D.files depot.old) (λ files. result.status ≡ Status.No → SampledDiffers files words.now → RefutedReplays files words.now (S.written out.old) (S.written out.new)) }

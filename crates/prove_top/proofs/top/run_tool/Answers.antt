@@ -1,5 +1,6 @@
 use Rattle.prove_top.specs.declared.report.Status.TheVariants as status
 use Rattle.prove_top.proofs.ClauseLemmas.{added-by, added-reads, reads-stop, reads-stores, last_failed, fault_report, fault_without, report_prefix, no_memory_bytes, status-iff, unknown-status, agrees-status, differs-status}
+use Rattle.prove_top.proofs.RefusalLemmas.{short-put, words-put, form-put}
 use Rattle.prove_top.proofs.RefutedLemmas.{refuted-put}
 use Rattle.prove_top.proofs.top.run_tool.Goals as goal
 
@@ -38,3 +39,12 @@ returns-clause-refuted_and_differs_iff g c = status-iff _ _ status.No c.args.wor
 
 pub returns-clause-refuted_replays : goal.returns-clause-refuted_replays
 returns-clause-refuted_replays g c = refuted-put _ _ c.args.words.now _ _ c.run-status.ensures.answer
+
+pub returns-clause-no_file_and_long_file : goal.returns-clause-no_file_and_long_file
+returns-clause-no_file_and_long_file g c = short-put _ _ c.args.words.now _ _ c.run-status.ensures.answer
+
+pub returns-clause-not_yet_words : goal.returns-clause-not_yet_words
+returns-clause-not_yet_words g c = words-put _ _ c.args.words.now _ _ c.run-status.ensures.answer
+
+pub returns-clause-not_yet_file : goal.returns-clause-not_yet_file
+returns-clause-not_yet_file g c = form-put _ _ c.args.words.now _ _ c.run-status.ensures.answer
