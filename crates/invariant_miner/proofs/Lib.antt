@@ -7,3 +7,4 @@ pub mod RowLemmas
 pub mod ListedLemmas
 pub mod KeptLemmas
 pub mod ThinLemmas
+pub mod LawLemmas

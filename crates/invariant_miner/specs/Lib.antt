@@ -4,3 +4,4 @@ pub mod Samples
 pub mod Candidates
 pub mod Kept
 pub mod Thinned
+pub mod Laws

@@ -14,7 +14,7 @@ use Rattle.invariant_miner.specs.declared.asked.Asked.{Asked}
 use Rattle.invariant_miner.specs.declared.asked.Asked.TheVariants as asked
 use Rattle.invariant_miner.specs.declared.thinned.Thinned.{Thinned}
 use Rattle.invariant_miner.specs.declared.thinned.Thinned.TheVariants as thinned
-use Rattle.invariant_miner.specs.Kept.{IsClosed, IsAbove, IsGreatestClosed}
+use Rattle.invariant_miner.specs.Kept.{IsClosed, IsAbove}
 
 -- the chains of the set refute the keep query of its clauses
 abbrev pub IsInductive : Circuit → InductiveSet → Type 0
@@ -51,7 +51,11 @@ pub record IsAskable (c : Circuit) (set : List (List LatchLiteral)) : Type 0 whe
   pub of : AreOfLatches (length c.latches.items) set
   pub small : weight set ≤ 2 ^ 28
 
--- the greatest closed set of clauses of the list with the chains that show it closed, or the lemmas of a spent budget
-abbrev pub IsThinned : Circuit → List (List LatchLiteral) → ℕ → Thinned → Type 0
-IsThinned c list budget (thinned.Kept set) = IsGreatestClosed c list set.clauses.items × IsInductive c set × IsAskable c set.clauses.items
-IsThinned c list budget (thinned.MiningSpent l) = IsMiningSpent c list budget l
+-- what is said of the set that is kept, and of the lemmas of a spent budget
+abbrev pub IfKept : Thinned → (InductiveSet → Type 0) → Type 0
+IfKept (thinned.Kept set) fact = fact set
+IfKept (thinned.MiningSpent l) fact = Unit {0}
+
+abbrev pub IfMiningSpent : Thinned → (Lemmas → Type 0) → Type 0
+IfMiningSpent (thinned.Kept set) fact = Unit {0}
+IfMiningSpent (thinned.MiningSpent l) fact = fact l

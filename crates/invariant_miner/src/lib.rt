@@ -8,6 +8,7 @@ mod draws;
 #[cfg(test)]
 mod kept_tests;
 mod lanes;
+pub mod laws;
 mod next;
 mod rows;
 mod samples;

@@ -9,7 +9,8 @@ ghost use Rattle.unroll_cnf.specs.Latches.{meets, AreOfLatches, weight};
 ghost use Rattle.unroll_cnf.specs.Queries.{keep_clauses};
 ghost use Rattle.unroll_cnf.specs.Runs.{IsKeepEdge};
 ghost use Rattle.unroll_cnf.specs.Meaning.{edges_of, HasSizes};
-ghost use Rattle.invariant_miner.specs.Thinned.{AskedIs, IsThinned, LeavesSet};
+ghost use Rattle.invariant_miner.specs.Kept.{IsGreatestClosed};
+ghost use Rattle.invariant_miner.specs.Thinned.{AskedIs, LeavesSet, IsInductive, IsAskable, IsMiningSpent, IfKept, IfMiningSpent};
 
 use crate::asked::Asked;
 use crate::next::next_of;
@@ -93,7 +94,10 @@ pub fn thin(
     requires few { budget ≤ 200000 }
     requires of { AreOfLatches (length circuit.now.latches.items) list.items }
     requires small { weight list.items ≤ 2 ^ 28 }
-    ensures { IfOk result (IsThinned circuit.now list.items budget) }
+    ensures kept { IfOk result (λ t. IfKept t (λ set. IsGreatestClosed circuit.now list.items set.clauses.items)) }
+    ensures kept_chains { IfOk result (λ t. IfKept t (IsInductive circuit.now)) }
+    ensures kept_askable { IfOk result (λ t. IfKept t (λ set. IsAskable circuit.now set.clauses.items)) }
+    ensures mining_spent { IfOk result (λ t. IfMiningSpent t (IsMiningSpent circuit.now list.items budget)) }
 {
     let mut current = list;
     loop {

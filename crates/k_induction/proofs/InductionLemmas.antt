@@ -1,5 +1,5 @@
 -- Induction over the edges of a run.
-use Rattle.std.proofs.Common.{◌≡◌, ℕ, zero, suc, ◌+◌, ◌-◌, ◌<◌, ◌≤◌, Bool, true, false, List, [], ◌∷◌, ◌++◌, length, map, take, drop, slice_get, get_or, Some, refl, ap, sym, ◌∙◌, subst, inl, inr, arith, true≢false, length-append, length-drop, length-take-le, take-append-drop}
+use Rattle.std.proofs.Common.{◌≡◌, ℕ, zero, suc, ◌+◌, ◌-◌, ◌<◌, ◌≤◌, Bool, true, false, List, [], ◌∷◌, ◌++◌, length, map, take, drop, get_or, refl, ap, sym, ◌∙◌, subst, inl, inr, arith, true≢false, length-append, length-drop, length-take-le, take-append-drop}
 use Rattle.std.proofs.lemmas.Bool.{cases_eq}
 use Rattle.std.proofs.lemmas.Option.{slice_get-get_or}
 use Rattle.std.proofs.lemmas.List.{take-take, take_at, drop-take, get_or-take, get_or-drop, get_or_push}
@@ -7,21 +7,17 @@ use Rattle.lemma_checker.specs.declared.chain.Chain.{Chain}
 use Rattle.lemma_checker.specs.Clauses.{HasNoSolution}
 use Rattle.lemma_checker.specs.Checker.{link}
 use Rattle.lemma_checker.proofs.Semantics.{none_solves}
-use Rattle.gate_graph.specs.declared.parts.Start.{Start}
-use Rattle.gate_graph.specs.declared.parts.Start.TheVariants as start
-use Rattle.gate_graph.specs.declared.parts.Latch.{Latch}
 use Rattle.gate_graph.specs.declared.circuits.Circuit.{Circuit}
-use Rattle.gate_graph.specs.Values.{at}
-use Rattle.gate_graph.specs.Latches.{StartsAtZero, StartsAs}
 use Rattle.gate_graph.specs.Runs.{next_state, is_bad, state_after, IsStart, IsSafe}
 use Rattle.unroll_cnf.specs.declared.latch_literal.LatchLiteral.{LatchLiteral}
-use Rattle.unroll_cnf.specs.Latches.{meets, MeetsAll, AreOfLatches}
+use Rattle.unroll_cnf.specs.Latches.{MeetsAll, AreOfLatches}
 use Rattle.unroll_cnf.specs.Runs.{state_at, bad_at, IsBaseRun}
 use Rattle.unroll_cnf.specs.Queries.{base_clauses, step_clauses, keep_clauses}
 use Rattle.unroll_cnf.specs.Meaning.{IsStoodFor}
 use Rattle.unroll_cnf.proofs.QueryLemmas.{base_run, step_run}
 use Rattle.invariant_miner.specs.Kept.{IsClosed}
 use Rattle.invariant_miner.proofs.ThinLemmas.{closed_of}
+use Rattle.invariant_miner.proofs.LawLemmas.{start_meets}
 use Rattle.k_induction.specs.Safety.{IsGoodFor, HasNoStep, IsBadRun}
 use Rattle.k_induction.specs.Chains.{AreBases, RefuteStep, RefuteKeep}
 
@@ -80,18 +76,6 @@ cut_run c k s xs b lt bad = record {
 
 pub good_by_base : (c : Circuit) (k : ℕ) → IsGoodFor c k → HasNoSolution (base_clauses c (k + 1)) → IsGoodFor c (k + 1)
 good_by_base c k g none = good_more c k g (λ s xs b lt bad. base_refuted c (k + 1) (omega arith) none s (take (k + 1) xs) (cut_run c k s xs b lt bad))
-
--- each set is met at the start, since `live` is 0 there
-starts_at_zero : (latches : List Latch) → StartsAtZero latches → ((l : Latch) × ((slice_get latches 0 ≡ Some l) × (l.start ≡ start.Zero)))
-starts_at_zero [] h = absurd (let e : ⊥ = cc in e)
-starts_at_zero (l ∷ ls) h = let e : l.start ≡ start.Zero = cc in (l, (refl, e))
-
-pub start_meets : (c : Circuit) (set : List (List LatchLiteral)) (s : List Bool) → IsStart c s → MeetsAll s set
-unfolding meets
-start_meets c set s b =
-    let first = starts_at_zero c.latches.items c.live in
-    let zero_there : at s 0 ≡ false = subst (λ (z : Start). StartsAs z (at s 0)) first.1.1 (b.each 0 first.0 first.1.0) in
-    record { each = λ i d is. rw zero_there refl }
 
 closed_after : (c : Circuit) (set : List (List LatchLiteral)) (s : List Bool) (xs : List (List Bool)) → IsClosed c set → MeetsAll s set → MeetsAll (state_after c s xs) set
 closed_after c set s [] k m = m

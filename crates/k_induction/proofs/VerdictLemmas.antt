@@ -25,7 +25,7 @@ use Rattle.k_induction.specs.declared.query.Query.TheVariants as query
 use Rattle.k_induction.specs.Safety.{IsGoodFor, HasNoStep, IsLooseRun}
 use Rattle.k_induction.specs.Chains.{AreBases, RefuteStep, RefuteKeep}
 use Rattle.k_induction.specs.Verdicts.{IsSpentOf, IsProof, IsShortest, IsLoose, IsBaseSpent, IsStepSpent, BudgetIs}
-use Rattle.k_induction.proofs.InductionLemmas.{good_by_base, safe_by_chains, step_more, safe_good, good_no_base, first_bad}
+use Rattle.k_induction.proofs.InductionLemmas.{good_by_base, step_refuted, safe_by_chains, step_more, safe_good, good_no_base, first_bad}
 
 pub refuted_by : (clauses wanted : List (List Literal)) (chains : List (List ℕ × List ℕ)) → clauses ≡ wanted → ReachesEmpty clauses chains → ReachesEmpty wanted chains
 refuted_by clauses wanted chains e r = subst (λ (z : List (List Literal)). ReachesEmpty z chains) e r
@@ -118,3 +118,6 @@ items_counted items k list counted = sym (length-map list items) ∙ counted
 
 pub safe_by_proof : (c : Circuit) (set : List (List LatchLiteral)) (bound k : ℕ) (bases : List (List Chain)) (step keep : List Chain) → AreOfLatches (length c.latches.items) set → IsProof c set bound k bases step → RefuteKeep c set keep → IsSafe c
 safe_by_proof c set bound k bases step keep of p r = safe_by_chains c set k bases step keep of p.bases_refute p.counted p.step_refutes r
+
+pub no_step_by_proof : (c : Circuit) (set : List (List LatchLiteral)) (bound k : ℕ) (bases : List (List Chain)) (step : List Chain) → AreOfLatches (length c.latches.items) set → IsProof c set bound k bases step → HasNoStep c set k
+no_step_by_proof c set bound k bases step of p = step_refuted c set k of (none_solves (step_clauses c set k) (map link step) p.step_refutes)

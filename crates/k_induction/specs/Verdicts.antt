@@ -21,7 +21,7 @@ use Rattle.k_induction.specs.declared.query.Query.{Query}
 use Rattle.k_induction.specs.declared.query.Query.TheVariants as query
 use Rattle.k_induction.specs.declared.verdict.Verdict.{Verdict}
 use Rattle.k_induction.specs.declared.verdict.Verdict.TheVariants as verdict
-use Rattle.k_induction.specs.Safety.{IsGoodFor, IsBadRun}
+use Rattle.k_induction.specs.Safety.{IsGoodFor, HasNoStep, IsBadRun}
 use Rattle.k_induction.specs.Chains.{AreBases, RefuteStep}
 
 -- the lemmas of a spent budget on a formula of these clauses and so many variables
@@ -97,6 +97,13 @@ SafeWithin bound (verdict.Safe safe) = safe.k ≤ bound
 SafeWithin bound (verdict.Bad bad) = Unit {0}
 SafeWithin bound (verdict.Loose loose) = Unit {0}
 SafeWithin bound (verdict.BudgetSpent q k l) = Unit {0}
+
+-- no run from a state that meets the set is good at the first k edges of a safe circuit and bad at the next
+abbrev pub SafeByStep : Circuit → List (List LatchLiteral) → Verdict → Type 0
+SafeByStep c set (verdict.Safe safe) = HasNoStep c set safe.k
+SafeByStep c set (verdict.Bad bad) = Unit {0}
+SafeByStep c set (verdict.Loose loose) = Unit {0}
+SafeByStep c set (verdict.BudgetSpent q k l) = Unit {0}
 
 abbrev pub BadIsShortest : Circuit → ℕ → Verdict → Type 0
 BadIsShortest c bound (verdict.Safe safe) = Unit {0}

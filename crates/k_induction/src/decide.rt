@@ -6,7 +6,7 @@ ghost use Rattle.unroll_cnf.specs.Latches.{AreOfLatches, weight};
 ghost use Rattle.unroll_cnf.specs.Runs.{IsBaseRun};
 ghost use Rattle.invariant_miner.specs.Thinned.{IsInductive};
 ghost use Rattle.k_induction.specs.Safety.{HasNoStep};
-ghost use Rattle.k_induction.specs.Verdicts.{HasParts, SafeWithin, BadIsShortest, LooseIsGood, SpentIsSpent, IsBadOrSpent, IsSafeOrSpent};
+ghost use Rattle.k_induction.specs.Verdicts.{HasParts, SafeWithin, SafeByStep, BadIsShortest, LooseIsGood, SpentIsSpent, IsBadOrSpent, IsSafeOrSpent};
 
 use crate::found::Found;
 use crate::search::search;
@@ -33,6 +33,7 @@ pub fn decide(
     requires small { weight set.clauses.items ≤ 2 ^ 28 }
     ensures same_parts { IfOk result (HasParts circuit set) }
     ensures safe_within { IfOk result (SafeWithin bound) }
+    ensures safe_by_step { IfOk result (SafeByStep circuit set.clauses.items) }
     ensures bad_is_shortest { IfOk result (BadIsShortest circuit bound) }
     ensures loose_good { IfOk result (LooseIsGood circuit set.clauses.items bound) }
     ensures spent { IfOk result (SpentIsSpent circuit set.clauses.items bound budget) }

@@ -1,7 +1,7 @@
 use Rattle.std.proofs.Common.{map, arith}
 use Rattle.k_induction.specs.Verdicts.{IsProof, IsShortest, IsLoose, BudgetIs}
 use Rattle.k_induction.proofs.InductionLemmas.{safe_good}
-use Rattle.k_induction.proofs.VerdictLemmas.{items_counted, safe_by_proof, closed_by, loose_not_found, bad_not_found, base_when_bad, loose_when_bad}
+use Rattle.k_induction.proofs.VerdictLemmas.{items_counted, safe_by_proof, no_step_by_proof, closed_by, loose_not_found, bad_not_found, base_when_bad, loose_when_bad}
 use Rattle.k_induction.proofs.decide.decide.Goals as goal
 
 pub invariant_of-result : goal.invariant_of-result
@@ -42,3 +42,8 @@ pub returns-in-BudgetSpent-clause-bad_is_found : goal.returns-in-BudgetSpent-cla
 returns-in-BudgetSpent-clause-bad_is_found c s xs k r some le =
     let spent : BudgetIs c.in-BudgetSpent.query c.args.circuit c.args.set.clauses.items c.args.bound c.args.budget c.in-BudgetSpent.k c.in-BudgetSpent.lemmas = rw (c.in-BudgetSpent.is, c.as_slice.ensures.value) at c.in_ok-k.ensures in
     base_when_bad c.in-BudgetSpent.query c.args.circuit c.args.set.clauses.items c.args.bound c.args.budget c.in-BudgetSpent.k c.in-BudgetSpent.lemmas k s xs spent r some le
+
+pub returns-in-Proof-clause-safe_by_step : goal.returns-in-Proof-clause-safe_by_step
+returns-in-Proof-clause-safe_by_step c =
+    let proof : IsProof c.args.circuit c.args.set.clauses.items c.args.bound c.in-Proof.k (map (λ b. b.items) c.in-Proof.bases.items) c.in-Proof.step.items = rw (c.in-Proof.is, c.as_slice.ensures.value) at c.in_ok-k.ensures in
+    no_step_by_proof c.args.circuit c.args.set.clauses.items c.args.bound c.in-Proof.k (map (λ b. b.items) c.in-Proof.bases.items) c.in-Proof.step.items c.requires.of proof
