@@ -9,3 +9,4 @@ pub mod WatchesLemmas
 pub mod BuildLemmas
 pub mod FitLemmas
 pub mod StartLemmas
+pub mod ClosedLemmas

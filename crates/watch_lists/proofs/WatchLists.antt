@@ -1,12 +1,14 @@
 -- Lists of watches, by the literal, and the copies of clauses in one table.
-use Rattle.std.proofs.Common.{◌≡◌, ◌≢◌, ℕ, ◌+◌, ◌-◌, ◌<◌, ◌≤◌, List, [], ◌∷◌, ◌++◌, length, take, drop, get_or, set, ap, ◌∙◌, sym, inl, inr, arith}
+use Rattle.std.specs.declared.alloc.AllocError.{AllocError}
+use Rattle.std.proofs.Common.{Result, Ok, Err, OnErr, ◌≡◌, ◌≢◌, ℕ, ◌+◌, ◌-◌, ◌<◌, ◌≤◌, List, [], ◌∷◌, ◌++◌, length, take, drop, get_or, set, ap, ◌∙◌, sym, inl, inr, arith}
 use Rattle.std.specs.List.{swap_remove}
 use Rattle.std.specs.declared.vec.Vec.{Vec}
 use Rattle.std.specs.declared.alloc.Global.{Global}
 use Rattle.std.proofs.lemmas.Bool.{cases_order}
-use Rattle.std.proofs.lemmas.List.{length-map, map-set, get_or-map, get_or-set_same, get_or-set_other, get_or_default}
+use Rattle.std.proofs.Math.Seq.{map-set_same, take-append_seam}
+use Rattle.std.proofs.lemmas.List.{length_push, set-set, set-get_or, length-map, map-set, get_or-map, get_or-set_same, get_or-set_other, get_or_default}
 use Rattle.std.proofs.lemmas.Slice.{between_is, between-put_mid, take-put_mid_below, drop-put_mid}
-use Rattle.std.specs.Vec.{with_item}
+use Rattle.std.specs.Vec.{with_item, vec_len}
 use Rattle.std.proofs.lemmas.List.Edits.{length-between}
 use borrow.Rule.Slice.PartMut.{put_mid}
 use Rattle.lemma_checker.specs.declared.literal.Literal.{Literal}
@@ -81,3 +83,20 @@ both_lists ls f s w v a b x y lt_f lt_s away one two =
     let a_is : a.items ≡ list_at (lists_of ls) f ++ w ∷ [] = one ∙ ap (λ (q : List Watch). q ++ w ∷ []) at_f in
     let b_is : b.items ≡ list_at (lists_of ls) s ++ v ∷ [] = two ∙ ap (λ (q : List Watch). q ++ v ∷ []) at_s in
     list_set (set ls f a) s b ∙ (ap (λ (q : List (List Watch)). set q s b.items) (list_set ls f a) ∙ (ap (λ (q : List Watch). set (set (lists_of ls) f q) s b.items) a_is ∙ ap (λ (q : List Watch). set (set (lists_of ls) f (list_at (lists_of ls) f ++ w ∷ [])) s q) b_is))
+
+-- a list that has the same watches again
+pub one_list : (r : Result (Unit {0}) AllocError) (ls : List (Vec Watch Global)) (f : ℕ) (a x : Vec Watch Global) → a.items ≡ (get_or ls f x).items → OnErr r (lists_of (set ls f a) ≡ lists_of ls)
+one_list (Ok u) ls f a x same = tt
+one_list (Err e) ls f a x same = map-set_same (λ (v : Vec Watch Global). v.items) ls f a x same
+
+-- a watch that was put into a list and taken back
+pub back_lists : (ls : List (Vec Watch Global)) (f s : ℕ) (w : Watch) (a b d x y z : Vec Watch Global) → f < length ls → f ≢ s → a.items ≡ (get_or ls f x).items ++ w ∷ [] → b.items ≡ (get_or (set ls f a) s y).items → d.items ≡ take (vec_len (get_or (set (set ls f a) s b) f z) - 1) (get_or (set (set ls f a) s b) f z).items → lists_of (set (set (set ls f a) s b) f d) ≡ lists_of ls
+back_lists ls f s w a b d x y z lt away pushed kept popped =
+    let old : List Watch = list_at (lists_of ls) f in
+    let is_a : get_or (set (set ls f a) s b) f z ≡ a = get_or-set_other (set ls f a) s f b z away ∙ get_or-set_same ls f a z lt in
+    let at_f : (get_or ls f x).items ≡ old = sym (get_or-map (λ (v : Vec Watch Global). v.items) ls f x [] lt) in
+    let a_is : a.items ≡ old ++ w ∷ [] = pushed ∙ ap (λ (q : List Watch). q ++ w ∷ []) at_f in
+    let count : vec_len a - 1 ≡ length old = omega (arith, a.ok.0, ap length a_is, length_push old w) in
+    let d_is : d.items ≡ old = popped ∙ (ap (λ (v : Vec Watch Global). take (vec_len v - 1) v.items) is_a ∙ (ap (λ (n : ℕ). take n a.items) count ∙ (ap (take (length old)) a_is ∙ take-append_seam old (w ∷ [])))) in
+    let between : lists_of (set (set ls f a) s b) ≡ set (lists_of ls) f a.items = map-set_same (λ (v : Vec Watch Global). v.items) (set ls f a) s b y kept ∙ list_set ls f a in
+    list_set (set (set ls f a) s b) f d ∙ (ap (λ (q : List (List Watch)). set q f d.items) between ∙ (set-set (lists_of ls) f a.items d.items ∙ (ap (set (lists_of ls) f) d_is ∙ set-get_or (lists_of ls) f [])))

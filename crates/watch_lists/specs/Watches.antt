@@ -42,3 +42,11 @@ pub record ArePair (c : List Literal) (first second : ℕ) : Type 0 where
 pub record ArePairGuarded (c : List Literal) (first second : ℕ) (t : Trail) : Type 0 where
   pub first_guarded : IsGuarded (set_of c) first t.literals.items t.starts.items t.done
   pub second_guarded : IsGuarded (set_of c) second t.literals.items t.starts.items t.done
+
+-- the same clauses, watched at the same literals
+pub record IsUnchanged (w v : Watches) : Type 0 where
+  pub literals : v.literals.items ≡ w.literals.items
+  pub starts : v.starts.items ≡ w.starts.items
+  pub lists : lists_of v.lists.items ≡ lists_of w.lists.items
+  pub short : v.short.items ≡ w.short.items
+  pub looked : v.looked ≡ w.looked

@@ -1,6 +1,6 @@
 //! Making watches of clauses.
 
-ghost use Rattle.std.specs.Prelude.{◌≡◌, ◌≢◌, ℕ, ◌+◌, ◌-◌, ◌*◌, ◌^◌, ◌<◌, ◌≤◌, true, List, [], ◌∷◌, ◌++◌, length, replicate, OnOk, IfOk};
+ghost use Rattle.std.specs.Prelude.{◌≡◌, ◌≢◌, ℕ, ◌+◌, ◌-◌, ◌*◌, ◌^◌, ◌<◌, ◌≤◌, true, List, [], ◌∷◌, ◌++◌, length, take, replicate, OnOk, OnErr, IfOk};
 ghost use Rattle.lemma_checker.specs.Clauses.{has, AreDistinct};
 ghost use Rattle.watch_lists.specs.Watches.{ArePair};
 ghost use Rattle.watch_lists.specs.Watching.{lists_of};
@@ -20,7 +20,8 @@ fn copy_clause(
     first: Literal,
     second: Literal,
 ) -> Result<(), AllocError>
-    ensures { OnOk result (literals.new.items ≡ literals.old.items ++ with_first clause.now first second) }
+    ensures literals { OnOk result (literals.new.items ≡ literals.old.items ++ with_first clause.now first second) }
+    ensures err { OnErr result (take (length literals.old.items) literals.new.items ≡ literals.old.items) }
 {
     literals.push(first)?;
     literals.push(second)?;
@@ -32,7 +33,33 @@ fn copy_clause(
     Ok(())
 }
 
-/// Lists a clause at two literals.
+/// Adds the literals of a clause, these two of it first, and where they end; or neither.
+fn add_copy(
+    literals: &mut Vec<Literal>,
+    starts: &mut Vec<usize>,
+    clause: &[Literal],
+    first: Literal,
+    second: Literal,
+) -> Result<(), AllocError>
+    ensures literals { OnOk result (literals.new.items ≡ literals.old.items ++ with_first clause.now first second) }
+    ensures starts { OnOk result (starts.new.items ≡ starts.old.items ++ length literals.new.items ∷ []) }
+    ensures err { OnErr result ((literals.new.items ≡ literals.old.items) × (starts.new.items ≡ starts.old.items)) }
+{
+    let before = literals.len();
+    if copy_clause(literals, clause, first, second).is_err() {
+        literals.truncate(before);
+        return Err(AllocError);
+    }
+    match starts.push(literals.len()) {
+        Ok(()) => Ok(()),
+        Err(_) => {
+            literals.truncate(before);
+            Err(AllocError)
+        }
+    }
+}
+
+/// Lists a clause at two literals, or at neither.
 fn list_both(
     lists: &mut [Vec<Watch>],
     clause: u32,
@@ -42,17 +69,24 @@ fn list_both(
     requires first { first.0 < length lists.old }
     requires second { second.0 < length lists.old }
     requires different { first.0 ≢ second.0 }
-    ensures { OnOk result (lists_of lists.new ≡ with_both (lists_of lists.old) first.0 second.0 (record { clause = clause; blocker = second }) (record { clause = clause; blocker = first })) }
+    ensures lists { OnOk result (lists_of lists.new ≡ with_both (lists_of lists.old) first.0 second.0 (record { clause = clause; blocker = second }) (record { clause = clause; blocker = first })) }
+    ensures err { OnErr result (lists_of lists.new ≡ lists_of lists.old) }
 {
     lists[first.0 as usize].push(Watch {
         clause,
         blocker: second,
     })?;
-    lists[second.0 as usize].push(Watch {
+    let other = Watch {
         clause,
         blocker: first,
-    })?;
-    Ok(())
+    };
+    match lists[second.0 as usize].push(other) {
+        Ok(()) => Ok(()),
+        Err(_) => {
+            let _ = lists[first.0 as usize].pop();
+            Err(AllocError)
+        }
+    }
 }
 
 /// The first two literals of a clause; literals of no variable, if it has fewer.
@@ -76,7 +110,7 @@ fn empty_lists(alloc: Global, count: usize) -> Result<Vec<Vec<Watch>>, AllocErro
     Ok(lists)
 }
 
-/// Adds a clause of fewer than two literals, of this number less 1.
+/// Adds a clause of fewer than two literals, of this number less 1, or nothing.
 fn add_short(
     literals: &mut Vec<Literal>,
     starts: &mut Vec<usize>,
@@ -87,14 +121,26 @@ fn add_short(
     ensures literals { OnOk result (literals.new.items ≡ literals.old.items ++ clause.now) }
     ensures starts { OnOk result (starts.new.items ≡ starts.old.items ++ length literals.new.items ∷ []) }
     ensures short { OnOk result (short.new.items ≡ short.old.items ++ number ∷ []) }
+    ensures err { OnErr result ((literals.new.items ≡ literals.old.items) × ((starts.new.items ≡ starts.old.items) × (short.new.items ≡ short.old.items))) }
 {
-    short.push(number)?;
+    let before = literals.len();
     literals.extend_from_slice(clause)?;
-    starts.push(literals.len())?;
-    Ok(())
+    if short.push(number).is_err() {
+        literals.truncate(before);
+        return Err(AllocError);
+    }
+    match starts.push(literals.len()) {
+        Ok(()) => Ok(()),
+        Err(_) => {
+            literals.truncate(before);
+            let _ = short.pop();
+            Err(AllocError)
+        }
+    }
 }
 
-/// Adds a clause of two literals or more, of this number less 1, that is watched at these two.
+/// Adds a clause of two literals or more, of this number less 1, that is watched at these two; or
+/// nothing.
 fn add_long(
     literals: &mut Vec<Literal>,
     starts: &mut Vec<usize>,
@@ -110,17 +156,24 @@ fn add_long(
     ensures literals { OnOk result (literals.new.items ≡ literals.old.items ++ with_first clause.now first second) }
     ensures starts { OnOk result (starts.new.items ≡ starts.old.items ++ length literals.new.items ∷ []) }
     ensures lists { OnOk result (lists_of lists.new ≡ with_both (lists_of lists.old) first.0 second.0 (record { clause = number; blocker = second }) (record { clause = number; blocker = first })) }
+    ensures err { OnErr result ((literals.new.items ≡ literals.old.items) × ((starts.new.items ≡ starts.old.items) × (lists_of lists.new ≡ lists_of lists.old))) }
 {
-    list_both(lists, number, first, second)?;
-    copy_clause(literals, clause, first, second)?;
-    starts.push(literals.len())?;
-    Ok(())
+    let before = literals.len();
+    add_copy(literals, starts, clause, first, second)?;
+    match list_both(lists, number, first, second) {
+        Ok(()) => Ok(()),
+        Err(_) => {
+            literals.truncate(before);
+            let _ = starts.pop();
+            Err(AllocError)
+        }
+    }
 }
 
 impl Watches {
     ghost use Rattle.watch_lists.specs.declared.trail.Trail.{Trail};
     ghost use Rattle.lemma_checker.specs.declared.literal.Literal.{Literal};
-    ghost use Rattle.watch_lists.specs.Watches.{AreSound, Holds, Fits, IsOf, ArePairGuarded};
+    ghost use Rattle.watch_lists.specs.Watches.{AreSound, Holds, Fits, IsOf, ArePairGuarded, IsUnchanged};
 
     /// Watches of no clauses, over the variables 1 to `vars`.
     fn empty(alloc: Global, vars: u32) -> Result<Watches, AllocError>
@@ -140,6 +193,7 @@ impl Watches {
     }
 
     /// Adds a clause under the next number. One of two literals or more is watched at these two.
+    /// Without memory, or past 2^32 - 2 clauses, nothing is added.
     pub fn add(
         &mut self,
         clause: &[Literal],
@@ -149,6 +203,7 @@ impl Watches {
         requires sound { AreSound self.old }
         requires over { IsOf self.old clause.now }
         requires pair { 2 ≤ length clause.now → ArePair clause.now first.0 second.0 }
+        ensures err { OnErr result (IsUnchanged self.old self.new) }
         ensures sound { OnOk result (AreSound self.new) }
         ensures size { OnOk result (length self.new.lists.items ≡ length self.old.lists.items) }
         ensures holds { OnOk result ((vars : ℕ) (clauses : List (List Literal)) → Holds self.old vars clauses → Holds self.new vars (clauses ++ clause.now ∷ [])) }

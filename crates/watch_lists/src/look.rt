@@ -36,6 +36,20 @@ fn face(clause: &mut [Literal], literal: Literal) -> bool
     clause[1].0 == literal.0
 }
 
+/// A literal past the first two that is true.
+fn true_literal(clause: &[Literal], values: &[bool]) -> Option<Literal>
+    ensures member { IfSome result (λ l. has l.0 clause.now ≡ true) }
+    ensures holds { IfSome result (λ l. at values.now l.0 ≡ true) }
+{
+    for place in 2..clause.len() {
+        let literal = clause[place];
+        if is_marked(values, literal.0 as usize) {
+            return Some(literal);
+        }
+    }
+    None
+}
+
 /// The place of a literal past the first two that isn't false, and is not the first one.
 fn other_place(clause: &[Literal], values: &[bool]) -> Option<usize>
     requires two { AreTwo clause.now }
@@ -52,8 +66,8 @@ fn other_place(clause: &[Literal], values: &[bool]) -> Option<usize>
     None
 }
 
-/// Looks at a clause of which a literal became false: where it was watched, another one is watched
-/// in its place, if there is one that isn't false and no true one beside it.
+/// Looks at a clause of which a literal became false: where it was watched and no literal of the
+/// clause is true, an open one is watched in its place, if there is one beside the other watch.
 pub fn look_at(clause: &mut [Literal], literal: Literal, values: &[bool]) -> Found
     requires two { AreTwo clause.old }
     requires denied { at values.now (opposite literal.0) ≡ true }
@@ -65,6 +79,9 @@ pub fn look_at(clause: &mut [Literal], literal: Literal, values: &[bool]) -> Fou
     let first = clause[0];
     if is_marked(values, first.0 as usize) {
         return Found::Met(first);
+    }
+    if let Some(met) = true_literal(clause, values) {
+        return Found::Met(met);
     }
     match other_place(clause, values) {
         Some(place) => {

@@ -1,6 +1,6 @@
 //! Unit propagation by watched literals.
 
-ghost use Rattle.std.specs.Prelude.{◌≡◌, ◌≢◌, ℕ, ◌+◌, ◌-◌, ◌*◌, ◌^◌, ◌<◌, ◌≤◌, Bool, true, false, List, [], ◌∷◌, ◌++◌, length, take, count_by, not, Option, Some, None, Ok, OnOk, OnErr, IfOk, IfSome, IfNone, slice_get, slice_set};
+ghost use Rattle.std.specs.Prelude.{◌≡◌, ◌≢◌, ℕ, ◌+◌, ◌-◌, ◌*◌, ◌^◌, ◌<◌, ◌≤◌, Bool, true, false, List, [], ◌∷◌, ◌++◌, length, take, count_by, not, Option, Some, None, Ok, OnOk, OnErr, IfOk, IfSome, IfNone, IsNone, ◌↔◌, slice_get, slice_set};
 ghost use Rattle.lemma_checker.specs.Clauses.{at, set_of, has, opposite};
 ghost use Rattle.watch_lists.specs.Watching.{copy, lists_of, list_at, literal_at, AreTwo, IsTable};
 ghost use Rattle.watch_lists.specs.Visits.{AreWatching, IsGrown, RanIs, AreBrief, MetIs};
@@ -85,13 +85,13 @@ fn visit_all(
 }
 
 impl Watches {
-    ghost use Rattle.lemma_checker.specs.Propagation.{IsInEachClosed};
-    ghost use Rattle.watch_lists.specs.Scans.{IsTrailOf, ToldIs};
+    ghost use Rattle.lemma_checker.specs.Propagation.{IsInEachClosed, IsPropagation, DoesNotConflict};
+    ghost use Rattle.watch_lists.specs.Scans.{IsTrailOf, ToldIs, IsConflictNumber};
     ghost use Rattle.watch_lists.specs.Watching.{AreForced};
     ghost use Rattle.watch_lists.specs.Watches.{Holds, Fits};
 
-    /// Adds what unit propagation gives: the number of a clause, if all its literals are false.
-    pub fn propagate(&mut self, trail: &mut Trail) -> Result<Option<u32>, AllocError>
+    /// Looks at the short clauses, and then at those of the literals that are not propagated yet.
+    fn run(&mut self, trail: &mut Trail) -> Result<Option<u32>, AllocError>
         requires fits { Fits self.old trail.old }
         ensures told { IfOk result (λ o. (vars : ℕ) (clauses : List (List Literal)) → Holds self.old vars clauses → ToldIs o clauses (set_of trail.new.literals.items)) }
         ensures only_appends { OnOk result ((vars : ℕ) (clauses : List (List Literal)) → Holds self.old vars clauses → AreForced clauses trail.old.literals.items trail.old.reasons.items trail.new.literals.items trail.new.reasons.items) }
@@ -121,6 +121,28 @@ impl Watches {
             self.lists.as_mut_slice(),
             trail,
         )?;
+        Ok(told)
+    }
+
+    /// Adds what unit propagation gives: the number of a clause, if all its literals are false, which is
+    /// so exactly where unit propagation conflicts.
+    pub fn propagate(&mut self, trail: &mut Trail) -> Result<Option<u32>, AllocError>
+        requires fits { Fits self.old trail.old }
+        ensures closed { IfOk result (λ o. (vars : ℕ) (clauses : List (List Literal)) → Holds self.old vars clauses → (IsNone o ↔ DoesNotConflict clauses (set_of trail.old.literals.items))) }
+        ensures given { IfOk result (λ o. IfNone o ((vars : ℕ) (clauses : List (List Literal)) → Holds self.old vars clauses → IsPropagation clauses (set_of trail.old.literals.items) (set_of trail.new.literals.items))) }
+        ensures conflict { IfOk result (λ o. IfSome o (λ number. (vars : ℕ) (clauses : List (List Literal)) → Holds self.old vars clauses → IsConflictNumber clauses number (set_of trail.new.literals.items))) }
+        ensures told { IfOk result (λ o. (vars : ℕ) (clauses : List (List Literal)) → Holds self.old vars clauses → ToldIs o clauses (set_of trail.new.literals.items)) }
+        ensures only_appends { OnOk result ((vars : ℕ) (clauses : List (List Literal)) → Holds self.old vars clauses → AreForced clauses trail.old.literals.items trail.old.reasons.items trail.new.literals.items trail.new.reasons.items) }
+        ensures trail { OnOk result ((vars : ℕ) (clauses : List (List Literal)) → Holds self.old vars clauses → IsTrailOf clauses trail.old → IsTrailOf clauses trail.new) }
+        ensures least { OnOk result ((vars : ℕ) (clauses : List (List Literal)) → Holds self.old vars clauses → IsInEachClosed clauses (set_of trail.old.literals.items) (set_of trail.new.literals.items)) }
+        ensures starts { OnOk result (trail.new.starts.items ≡ trail.old.starts.items) }
+        ensures done { result ≡ Ok None → trail.new.done ≡ length trail.new.literals.items }
+        ensures size { OnOk result (length trail.new.values.items ≡ length trail.old.values.items) }
+        ensures fewer { OnOk result (count_by not trail.new.values.items ≤ count_by not trail.old.values.items) }
+        ensures stays_fitting { OnOk result (Fits self.new trail.new) }
+        ensures same_clauses { OnOk result ((vars : ℕ) (clauses : List (List Literal)) → Holds self.old vars clauses → Holds self.new vars clauses) }
+    {
+        let told = self.run(trail)?;
         Ok(told)
     }
 }
