@@ -1,7 +1,10 @@
 #!/usr/bin/env bash
 # Solves pigeonhole formulas and random formulas of three literals a clause with the proved solver, and
-# with minisat and cadical where they are installed: the answer, conflicts, conflicts a second and user
-# seconds of each. It takes some minutes, since the program is proved first.
+# with minisat and cadical where they are installed: the answer, conflicts, user seconds and conflicts a
+# second of each, and by how much the proved solver's time per conflict is longer. "cadical-all" is
+# cadical that forgets no clause and simplifies none, as the proved solver does neither.
+# Each run ends after 60,000 conflicts. minisat has no such limit: it ends after 20 seconds. So the whole
+# takes two or three minutes, after the program was proved, which may take some minutes more.
 set -euo pipefail
 here="$(cd "$(dirname "$0")" && pwd)"
 work="$(mktemp -d)"
@@ -40,24 +43,39 @@ random() {
     }'
 }
 
-# the user seconds of a command, whose output goes to $work/output.txt
+limit=60000
+
+# runs a command with its output in $work/output.txt, and prints its user seconds
 timed() { ( TIMEFORMAT=%U; time "$@" > "$work/output.txt" 2> /dev/null || true ) 2>&1; }
 
-report() { awk -v name="$1" -v who="$2" -v what="$3" -v n="$4" -v s="$5" 'BEGIN {
-    printf "%-8s %-8s %-14s %9s conflicts %8.2f s %10s a second\n", name, who, what, n, s, (s > 0 && n > 0 ? int(n / s) : "-") }'; }
+# prints a line, with how many times longer $per seconds a conflict are
+report() { awk -v name="$1" -v who="$2" -v what="$3" -v n="$4" -v s="$5" -v per="$per" 'BEGIN {
+    printf "%-8s %-12s %-14s %8s conflicts %7.2f s %8s a second", name, who, what, n, s, (s > 0 && n > 0 ? int(n / s) : "-")
+    if (per > 0 && s > 0 && n > 0) printf "  %5.1f times", per * n / s
+    print "" }'; }
+
+with_cadical() {
+    name="$1" who="$2"
+    shift 2
+    seconds="$(timed cadical -c "$limit" "$@")"
+    what="$(awk '/^s / { print tolower($2) }' "$work/output.txt")"
+    report "$name" "$who" "${what:-spent}" "$(awk '/^c conflicts:/ { print $3 }' "$work/output.txt")" "$seconds"
+}
 
 run() {
-    name="$1" file="$2"
+    name="$1" file="$2" per=0
     seconds="$( ( TIMEFORMAT=%U; time "$program" < "$file" > "$work/output.txt" ) 2>&1 )"
     read -r what lemmas < "$work/output.txt"
     report "$name" proved "$what" "$lemmas" "$seconds"
+    per="$(awk -v n="$lemmas" -v s="$seconds" 'BEGIN { print (n > 0 ? s / n : 0) }')"
     if command -v minisat > /dev/null; then
-        seconds="$(timed minisat -no-pre -verb=1 "$file")"
-        report "$name" minisat "$(tail -n 1 "$work/output.txt" | tr 'A-Z' 'a-z')" "$(awk '/^conflicts/ { print $3 }' "$work/output.txt")" "$seconds"
+        seconds="$(timed minisat -no-pre -verb=1 -cpu-lim=20 "$file")"
+        what="$(tail -n 1 "$work/output.txt" | tr 'A-Z' 'a-z')"
+        report "$name" minisat "$what" "$(awk '/^conflicts/ { print $3 }' "$work/output.txt")" "$seconds"
     fi
     if command -v cadical > /dev/null; then
-        seconds="$(timed cadical "$file")"
-        report "$name" cadical "$(awk '/^s / { print tolower($2) }' "$work/output.txt")" "$(awk '/^c conflicts:/ { print $3 }' "$work/output.txt")" "$seconds"
+        with_cadical "$name" cadical "$file"
+        with_cadical "$name" cadical-all --plain --reduce=0 "$file"
     fi
 }
 
