@@ -1,8 +1,7 @@
 -- What the calls and the end of a command tell, clause by clause.
-use Rattle.std.proofs.Common.{◌≡◌, ◌≢◌, ◌↔◌, ℕ, Bool, true, false, is_some, slice_index_or, codes, List, [], ◌∷◌, ◌++◌, length, Option, Some, None, Result, Ok, Err, IfSome, IsSome, IsSomeAnd, ◌⊎◌, inl, inr, refl, sym, ap, subst, arith, ◌∙◌}
+use Rattle.std.proofs.Common.{◌≡◌, ◌↔◌, ℕ, Bool, false, is_some, codes, List, [], ◌∷◌, Option, Some, None, Result, Ok, Err, IfSome, IsSome, IsSomeAnd, ◌⊎◌, inl, inr, refl, sym, ap, subst, arith, ◌∙◌}
 use Rattle.tool_edge.specs.Causes.{Rose}
 use Rattle.tool_edge.specs.Files.{Files}
-use Rattle.tool_edge.specs.Calls.{after_calls}
 use Rattle.tool_edge.specs.Written.{after_put, AppendsPart}
 use Rattle.tool_edge.specs.declared.depot.DepotCall.{DepotCall}
 use Rattle.tool_edge.specs.declared.depot.DepotAnswer.{DepotAnswer}
@@ -13,7 +12,7 @@ use Rattle.prove_top.specs.declared.gather.Kind.{Kind}
 use Rattle.prove_top.specs.declared.gather.Shortfall.{Shortfall}
 use Rattle.prove_top.specs.declared.gather.Shortfall.TheVariants.{Missing, Long}
 use Rattle.prove_top.specs.declared.report.Report.{Report}
-use Rattle.prove_top.specs.declared.report.Report.TheVariants.{Usage, Refused, WrongTrace, Refuted, Simulated, Agrees, Differs, FaultRead}
+use Rattle.prove_top.specs.declared.report.Report.TheVariants.{Usage, Refused, WrongTrace, Refuted, Simulated, Agrees, Differs, Fault}
 use Rattle.prove_top.specs.declared.report.Refusal.TheVariants.{RdlSize, VlogSize, PortSize, TraceSize, NoFile, NotYet}
 use Rattle.prove_top.specs.declared.report.Status.{Status}
 use Rattle.prove_top.specs.declared.report.Status.TheVariants as status
@@ -23,39 +22,25 @@ use Rattle.prove_top.specs.declared.words.Work.TheVariants as work
 use Rattle.trace_replay.specs.declared.fault.TraceCode.TheVariants as code
 use Rattle.trace_replay.specs.Trace.{trace_difference}
 use Rattle.trace_replay.proofs.TraceTheorem.{no-line, no-name, no-illegal, same_trace}
-use Rattle.prove_top.specs.Answer.{TellsFailed, Answers, CommandAnswer, AskedAnswer, FilesAnswer, WorkAnswer, ReplayAnswer, Replays, ReplaysTo, names_asked, short_report, sample_report, block_of, run_report, difference_report, text_at, wanted_of, name_of}
-use Rattle.prove_top.specs.Clauses.{Added, WholeButTheLast, NoStores, IsFaultOrMemory, PutsPart, PutsFault, PutsPartThenMemory, with_block, sample_block, replay_block, of_texts, of_task, SampledDiffers, SampledAgrees, ReplayAgrees, ReplayDiffers}
-use Rattle.prove_top.specs.Ends.{Ends, EndsPut, Completes, FailsPut, WantsMemory, MayReport, PutsAnswer, Ran, Reported, Wanting, UnlessFailed}
+use Rattle.prove_top.specs.Answer.{TellsFailed, Answers, CommandAnswer, AskedAnswer, FilesAnswer, WorkAnswer, ReplayAnswer, Replays, ReplaysTo, short_report, sample_report, block_of, run_report, difference_report, text_at, wanted_of, name_of}
+use Rattle.prove_top.specs.Asked.{with_block, sample_block, replay_block, of_texts, of_task}
+use Rattle.prove_top.specs.Clauses.{Added, IsFaultOrMemory, PutsPart, PutsFault, PutsPartThenMemory, SampledDiffers, SampledAgrees, ReplayAgrees, ReplayDiffers}
+use Rattle.prove_top.specs.Ends.{Ends, MayReport, PutsAnswer, Ran, UnlessFailed}
 use Rattle.prove_top.specs.Gather.{gathered}
-use Rattle.prove_top.specs.Reads.{AreReads, GoesOn, ReadsOnly, failed_of}
+use Rattle.prove_top.specs.Reads.{AreCalls, AreReads, Called, GoesOn, NoStores, failed_of}
 use Rattle.prove_top.specs.Report.{status_of, text_of}
-use Rattle.prove_top.specs.Sampled.{sampled}
+use Rattle.prove_top.specs.Sampled.{sampled, sampled_trace}
 use Rattle.std.specs.Option.{option_and_then}
 use Rattle.prove_top.specs.declared.words.Command.{Command}
 use Rattle.prove_top.specs.Words.{command_of, task_of}
-use Rattle.prove_top.proofs.EndLemmas.{put-part, part-whole, unless-map}
+use Rattle.prove_top.proofs.EndLemmas.{part-whole, unless-map}
 
-module _ (names : List (List ℕ)) (before after : Option (List DepotCall)) (P : List DepotCall → Type 0) where
-  pub added-reads : ReadsOnly names before after P → Added before after (AreReads names)
-  added-reads r = record { added = r.added; told = r.told; holds = r.reads }
+module _ (names : List (List ℕ)) (to : Option (List ℕ)) (before after : Option (List DepotCall)) (P : List DepotCall → Type 0) where
+  pub added-calls : Called names to before after P → Added before after (AreCalls names to)
+  added-calls r = record { added = r.added; told = r.told; holds = r.calls }
 
-  pub added-by : (Q : List DepotCall → Type 0) → ((calls : List DepotCall) → AreReads names calls → P calls → Q calls) → ReadsOnly names before after P → Added before after Q
-  added-by Q f r = record { added = r.added; told = r.told; holds = f r.added r.reads r.ends }
-
-goes-whole : (answer : DepotAnswer) (more : Type 0) (next : DepotCall) (calls : List DepotCall) → GoesOn answer more (next ∷ calls ≡ []) → (answer ≡ answered.Whole) × more
-goes-whole answered.Whole more next calls goes = (refl, goes)
-goes-whole answered.Long more next calls goes = cc
-goes-whole answered.Missing more next calls goes = cc
-goes-whole answered.Stored more next calls goes = cc
-goes-whole answered.Failed more next calls goes = cc
-
-pub reads-stop : (names : List (List ℕ)) (calls : List DepotCall) → AreReads names calls → WholeButTheLast calls
-reads-stop names [] reads = tt
-reads-stop names (call ∷ []) reads = tt
-reads-stop [] (call ∷ next ∷ calls) reads = absurd reads
-reads-stop (name ∷ names) (call ∷ next ∷ calls) reads =
-    let goes = goes-whole call.answer (AreReads names (next ∷ calls)) next calls reads.2 in
-    (goes.0, reads-stop names (next ∷ calls) goes.1)
+  pub added-by : (Q : List DepotCall → Type 0) → ((calls : List DepotCall) → AreCalls names to calls → P calls → Q calls) → Called names to before after P → Added before after Q
+  added-by Q f r = record { added = r.added; told = r.told; holds = f r.added r.calls r.ends }
 
 goes-stores : (answer : DepotAnswer) (names : List (List ℕ)) (calls : List DepotCall) → ((reads : AreReads names calls) → NoStores calls) → GoesOn answer (AreReads names calls) (calls ≡ []) → NoStores calls
 goes-stores answered.Whole names calls f goes = f goes
@@ -69,56 +54,61 @@ reads-stores names [] reads = tt
 reads-stores [] (call ∷ calls) reads = absurd reads
 reads-stores (name ∷ names) (call ∷ calls) reads = (reads.1, goes-stores call.answer names calls (reads-stores names calls) reads.2)
 
--- a report is about the read that failed
-tells-fault : (report : Report) (name : List ℕ) (failed : Option (List ℕ)) → failed ≡ Some name → TellsFailed report failed → report ≡ FaultRead name
-tells-fault (FaultRead file) name failed is tells = ap FaultRead (let same : file ≡ name = cc in same)
-tells-fault Usage name failed is tells = cc
-tells-fault (Refused why file) name failed is tells = cc
-tells-fault (Refuted edge what trace) name failed is tells = cc
-tells-fault Simulated name failed is tells = cc
-tells-fault (WrongTrace why line file) name failed is tells = cc
-tells-fault (Agrees edges) name failed is tells = cc
-tells-fault (Differs edge what) name failed is tells = cc
+-- a report is about the call that failed
+tells-fault : (report : Report) (store : Bool) (name : List ℕ) (failed : Option (Bool × List ℕ)) → failed ≡ Some (store, name) → TellsFailed report failed → report ≡ Fault store name
+tells-fault (Fault which file) store name failed is tells =
+    let same : ◌≡◌ {A = Bool × List ℕ} (which, file) (store, name) = cc in ap (λ p. Fault p.0 p.1) same
+tells-fault Usage store name failed is tells = cc
+tells-fault (Refused why file) store name failed is tells = cc
+tells-fault (Refuted edge what trace to) store name failed is tells = cc
+tells-fault Simulated store name failed is tells = cc
+tells-fault (WrongTrace why line file) store name failed is tells = cc
+tells-fault (Agrees edges) store name failed is tells = cc
+tells-fault (Differs edge what) store name failed is tells = cc
 
-no-fault : (report : Report) (failed : Option (List ℕ)) (Q : Type 0) → failed ≡ None → TellsFailed report failed → status_of report ≡ status.Fault → Q
-no-fault (FaultRead file) failed Q is tells said = cc
+no-fault : (report : Report) (failed : Option (Bool × List ℕ)) (Q : Type 0) → failed ≡ None → TellsFailed report failed → status_of report ≡ status.Fault → Q
+no-fault (Fault store file) failed Q is tells said = cc
 no-fault Usage failed Q is tells said = cc
 no-fault (Refused why file) failed Q is tells said = cc
-no-fault (Refuted edge what trace) failed Q is tells said = cc
+no-fault (Refuted edge what trace to) failed Q is tells said = cc
 no-fault Simulated failed Q is tells said = cc
 no-fault (WrongTrace why line file) failed Q is tells said = cc
 no-fault (Agrees edges) failed Q is tells said = cc
 no-fault (Differs edge what) failed Q is tells said = cc
 
 never-memory : (report : Report) (Q : Type 0) → status_of report ≡ status.NoMemory → Q
-never-memory (FaultRead file) Q said = cc
+never-memory (Fault store file) Q said = cc
 never-memory Usage Q said = cc
 never-memory (Refused why file) Q said = cc
-never-memory (Refuted edge what trace) Q said = cc
+never-memory (Refuted edge what trace to) Q said = cc
 never-memory Simulated Q said = cc
 never-memory (WrongTrace why line file) Q said = cc
 never-memory (Agrees edges) Q said = cc
 never-memory (Differs edge what) Q said = cc
 
 module _ (told : Option Files) (words : List (List ℕ)) (old new : Option (List ℕ)) (before now : ℕ) (ended : Status) (calls : List DepotCall) where
-  last-of : (report : Report) (name : List ℕ) → report ≡ FaultRead name → Ends report old new before now ended → IsFaultOrMemory ended
-  last-of report name is (inl done) = inl (done.said ∙ ap status_of is)
-  last-of report name is (inr (inl fails)) = inl fails.said
-  last-of report name is (inr (inr wants)) = inr wants.said
+  last-of : (report : Report) (store : Bool) (name : List ℕ) → report ≡ Fault store name → Ends report old new before now ended → IsFaultOrMemory ended
+  last-of report store name is (inl done) = inl (done.said ∙ ap status_of is)
+  last-of report store name is (inr (inl fails)) = inl fails.said
+  last-of report store name is (inr (inr wants)) = inr wants.said
 
-  pub last_failed : Ran told words old new before now ended calls → (name : List ℕ) → failed_of calls ≡ Some name → IsFaultOrMemory ended
-  last_failed (inl ran) name is = last-of ran.report name (tells-fault ran.report name (failed_of calls) is ran.may.failure) ran.ends
-  last_failed (inr wants) name is = inr wants.said
+  last-at : (failed : Option (Bool × List ℕ)) → failed_of calls ≡ failed → IsSome failed → (report : Report) → TellsFailed report (failed_of calls) → Ends report old new before now ended → IsFaultOrMemory ended
+  last-at None is some report tells ends = cc
+  last-at (Some failed) is some report tells ends = last-of report failed.0 failed.1 (tells-fault report failed.0 failed.1 (failed_of calls) is tells) ends
 
-  fault-of : (report : Report) (name : List ℕ) → report ≡ FaultRead name → Ends report old new before now ended → ended ≡ status.Fault → PutsFault name old new before now
-  fault-of report name is (inl done) said = inl (done.written ∙ ap (λ r. after_put old (text_of r)) is)
-  fault-of report name is (inr (inl fails)) said =
+  pub last_failed : Ran told words old new before now ended calls → IsSome (failed_of calls) → IsFaultOrMemory ended
+  last_failed (inl ran) some = last-at (failed_of calls) refl some ran.report ran.may.failure ran.ends
+  last_failed (inr wants) some = inr wants.said
+
+  fault-of : (report : Report) (store : Bool) (name : List ℕ) → report ≡ Fault store name → Ends report old new before now ended → ended ≡ status.Fault → PutsFault store name old new before now
+  fault-of report store name is (inl done) said = inl (done.written ∙ ap (λ r. after_put old (text_of r)) is)
+  fault-of report store name is (inr (inl fails)) said =
       let Q : Report → Type 0 = λ r. AppendsPart old (text_of r) new in inr (fails.rose, subst Q is fails.written)
-  fault-of report name is (inr (inr wants)) said = let no_way : status.NoMemory ≡ status.Fault = sym wants.said ∙ said in cc
+  fault-of report store name is (inr (inr wants)) said = let no_way : status.NoMemory ≡ status.Fault = sym wants.said ∙ said in cc
 
-  pub fault_report : Ran told words old new before now ended calls → (name : List ℕ) → failed_of calls ≡ Some name → ended ≡ status.Fault → PutsFault name old new before now
-  fault_report (inl ran) name is said = fault-of ran.report name (tells-fault ran.report name (failed_of calls) is ran.may.failure) ran.ends said
-  fault_report (inr wants) name is said = let no_way : status.NoMemory ≡ status.Fault = sym wants.said ∙ said in cc
+  pub fault_report : Ran told words old new before now ended calls → (store : Bool) (name : List ℕ) → failed_of calls ≡ Some (store, name) → ended ≡ status.Fault → PutsFault store name old new before now
+  fault_report (inl ran) store name is said = fault-of ran.report store name (tells-fault ran.report store name (failed_of calls) is ran.may.failure) ran.ends said
+  fault_report (inr wants) store name is said = let no_way : status.NoMemory ≡ status.Fault = sym wants.said ∙ said in cc
 
   without-of : (report : Report) → TellsFailed report (failed_of calls) → failed_of calls ≡ None → Ends report old new before now ended → ended ≡ status.Fault → Rose before now
   without-of report tells none (inl done) said = no-fault report (failed_of calls) (Rose before now) none tells (sym done.said ∙ said)
@@ -148,7 +138,9 @@ module _ (told : Option Files) (words : List (List ℕ)) (old new : Option (List
   no_memory_bytes (inr wants) said = record { middle = old; first = inr refl; last = wants.written }
 
 -- the status of a report, by the block and the seed, or the block and the trace text, that were asked for
-record Says (report : Report) (asked : Option (Block × ℕ)) (replayed : Option (Block × List ℕ)) : Type 0 where
+pub record Says (report : Report) (asked : Option (Block × ℕ)) (replayed : Option (Block × List ℕ)) : Type 0 where
+  pub refuted : (edge : ℕ) (what : Difference) (trace : List ℕ) (to : Option (List ℕ)) → report ≡ Refuted edge what trace to
+      → IsSomeAnd asked (λ a. (sampled a.0 a.1 ≡ Some (edge, what)) × (trace ≡ sampled_trace a.0 a.1 edge))
   unknown : (status_of report ≡ status.Unknown) ↔ IsSomeAnd asked (λ a. sampled a.0 a.1 ≡ None)
   agrees : (status_of report ≡ status.Yes) ↔ IsSomeAnd replayed (λ a. (count : ℕ) × ReplaysTo a.0 a.1 None count)
   differs : (status_of report ≡ status.No)
@@ -164,34 +156,50 @@ either-none a b (inr h) = b h
 -- a report under another status says nothing of a block
 quiet : (report : Report) → (status_of report ≡ status.Refused) ⊎ (status_of report ≡ status.Usage) → Says report None None
 quiet report (inl is) = record {
+  refuted = λ edge what trace to h. let no_way : status.Refused ≡ status.No = sym is ∙ ap status_of h in cc;
   unknown = neither-of (λ h. let no_way : status.Refused ≡ status.Unknown = sym is ∙ h in cc) (λ h. h);
   agrees = neither-of (λ h. let no_way : status.Refused ≡ status.Yes = sym is ∙ h in cc) (λ h. h);
   differs = neither-of (λ h. let no_way : status.Refused ≡ status.No = sym is ∙ h in cc) (either-none (λ h. h) (λ h. h));
 }
 quiet report (inr is) = record {
+  refuted = λ edge what trace to h. let no_way : status.Usage ≡ status.No = sym is ∙ ap status_of h in cc;
   unknown = neither-of (λ h. let no_way : status.Usage ≡ status.Unknown = sym is ∙ h in cc) (λ h. h);
   agrees = neither-of (λ h. let no_way : status.Usage ≡ status.Yes = sym is ∙ h in cc) (λ h. h);
   differs = neither-of (λ h. let no_way : status.Usage ≡ status.No = sym is ∙ h in cc) (either-none (λ h. h) (λ h. h));
 }
 
-difference-says : (block : Block) (seed : ℕ) (first : Option (ℕ × Difference)) → first ≡ sampled block seed → Says (difference_report block seed first) (Some (block, seed)) None
-difference-says block seed None is = record {
+first-is : (first : ℕ × Difference) (edge : ℕ) (what : Difference) → first.0 ≡ edge → first.1 ≡ what → first ≡ (edge, what)
+first-is first edge what a b = ap (λ e. (e, first.1)) a ∙ ap (λ w. (edge, w)) b
+
+refuted-says : (block : Block) (seed : ℕ) (first : ℕ × Difference) (due : Option (List ℕ)) → sampled block seed ≡ Some first
+    → (edge : ℕ) (what : Difference) (trace : List ℕ) (to : Option (List ℕ)) → Refuted first.0 first.1 (sampled_trace block seed first.0) due ≡ Refuted edge what trace to
+    → (sampled block seed ≡ Some (edge, what)) × (trace ≡ sampled_trace block seed edge)
+refuted-says block seed first due is edge what trace to h =
+    let e : first.0 ≡ edge = cc in
+    let w : first.1 ≡ what = cc in
+    let t : sampled_trace block seed first.0 ≡ trace = cc in
+    (is ∙ ap Some (first-is first edge what e w), sym t ∙ ap (sampled_trace block seed) e)
+
+difference-says : (block : Block) (seed : ℕ) (to : Option (List ℕ)) (first : Option (ℕ × Difference)) → first ≡ sampled block seed → Says (difference_report block seed to first) (Some (block, seed)) None
+difference-says block seed due None is = record {
+  refuted = λ edge what trace to h. cc;
   unknown = (λ h. sym is, λ h. refl);
   agrees = neither-of (λ h. cc) (λ h. h);
   differs = neither-of (λ h. cc) (either-none (λ h. let no_way : is_some (sampled block seed) ≡ false = ap is_some (sym is) in cc) (λ h. h));
 }
-difference-says block seed (Some first) is = record {
+difference-says block seed due (Some first) is = record {
+  refuted = refuted-says block seed first due (sym is);
   unknown = neither-of (λ h. cc) (λ h. let no_way : ◌≡◌ {A = Option (ℕ × Difference)} (Some first) None = is ∙ h in cc);
   agrees = neither-of (λ h. cc) (λ h. h);
   differs = (λ h. inl (ap is_some (sym is)), λ h. refl);
 }
 
-run-says : (block : Block) (seed : ℕ) → Says (run_report block seed) (Some (block, seed)) None
+run-says : (block : Block) (seed : ℕ) (to : Option (List ℕ)) → Says (run_report block seed to) (Some (block, seed)) None
 unfolding run_report
-run-says block seed = difference-says block seed (sampled block seed) refl
+run-says block seed to = difference-says block seed to (sampled block seed) refl
 
 sample-says : (task : Task) (seed : ℕ) (block : Result Block Kind) → Says (sample_report task seed block) (with_block seed block) None
-sample-says task seed (Ok block) = run-says block seed
+sample-says task seed (Ok block) = run-says block seed task.trace_file
 sample-says task seed (Err kind) = quiet (Refused NotYet (name_of task kind)) (inl refl)
 
 -- the run of a trace text has one first difference
@@ -206,6 +214,7 @@ some-none first same = cc
 wrong-says : (block : Block) (text : List ℕ) (report : Report) → status_of report ≡ status.Refused → ((found : Option (ℕ × Difference)) (count : ℕ) → ReplaysTo block text found count → ⊥)
     → Says report None (Some (block, text))
 wrong-says block text report is none = record {
+  refuted = λ edge what trace to h. let no_way : status.Refused ≡ status.No = sym is ∙ ap status_of h in cc;
   unknown = neither-of (λ h. let no_way : status.Refused ≡ status.Unknown = sym is ∙ h in cc) (λ h. h);
   agrees = neither-of (λ h. let no_way : status.Refused ≡ status.Yes = sym is ∙ h in cc) (λ h. none None h.0 h.1);
   differs = neither-of (λ h. let no_way : status.Refused ≡ status.No = sym is ∙ h in cc) (either-none (λ h. h) (λ h. none (Some h.0) h.1.0 h.1.1));
@@ -213,11 +222,13 @@ wrong-says block text report is none = record {
 
 replays-says : (block : Block) (name text : List ℕ) (report : Report) → Replays block name text report → Says report None (Some (block, text))
 replays-says block name text (Agrees edges) h = record {
+  refuted = λ edge what trace to e. cc;
   unknown = neither-of (λ e. cc) (λ e. e);
   agrees = (λ e. (edges, h), λ e. refl);
   differs = neither-of (λ e. cc) (either-none (λ e. e) (λ e. some-none e.0 (one-run block text (Some e.0) None e.1.0 edges e.1.1 h)));
 }
 replays-says block name text (Differs edge what) h = record {
+  refuted = λ at found trace to e. cc;
   unknown = neither-of (λ e. cc) (λ e. e);
   agrees = neither-of (λ e. cc) (λ e. some-none (edge, what) (one-run block text (Some (edge, what)) None h.0 e.0 h.1 e.1));
   differs = (λ e. inr ((edge, what), h), λ e. refl);
@@ -236,9 +247,9 @@ replays-says block name text (Refused PortSize file) h = absurd h
 replays-says block name text (Refused NoFile file) h = absurd h
 replays-says block name text (Refused NotYet file) h = absurd h
 replays-says block name text Usage h = absurd h
-replays-says block name text (Refuted edge what trace) h = absurd h
+replays-says block name text (Refuted edge what trace to) h = absurd h
 replays-says block name text Simulated h = absurd h
-replays-says block name text (FaultRead file) h = absurd h
+replays-says block name text (Fault store file) h = absurd h
 
 says-as : (report due : Report) (asked : Option (Block × ℕ)) (replayed : Option (Block × List ℕ)) → report ≡ due → Says due asked replayed → Says report asked replayed
 says-as report due asked replayed is h = let P : Report → Type 0 = λ r. Says r asked replayed in subst P (sym is) h
@@ -263,18 +274,18 @@ asked-says : (files : Files) (task : Option Task) (report : Report) → AskedAns
 asked-says files None report h = says-as report (Refused NotYet (codes "words")) None None h (quiet (Refused NotYet (codes "words")) (inl refl))
 asked-says files (Some task) report h = files-says task (gathered files (wanted_of task)) report h
 
-command-says : (files : Files) (command : Option Command) (report : Report) → CommandAnswer files command report
+pub command-says : (files : Files) (command : Option Command) (report : Report) → CommandAnswer files command report
     → Says report (of_task sample_block files (option_and_then task_of command)) (of_task replay_block files (option_and_then task_of command))
 command-says files None report h = says-as report Usage None None h (quiet Usage (inr refl))
 command-says files (Some command) report h = asked-says files (task_of command) report h
 
-pub status-iff : (told : Option Files) (ended due : Status) (words : List (List ℕ)) (old new : Option (List ℕ)) (F : Files → Type 0)
+pub status-iff : (told : Option Files) (ended due : Status) (words : List (List ℕ)) (old new : Option (List ℕ)) (after : Option Files) (F : Files → Type 0)
     → ((files : Files) (report : Report) → Answers files words report → (status_of report ≡ due) ↔ F files)
-    → IfSome told (λ files. UnlessFailed ended (PutsAnswer files words old new ended))
+    → IfSome told (λ files. UnlessFailed ended (PutsAnswer files words old new after ended))
     → IfSome told (λ files. UnlessFailed ended ((ended ≡ due) ↔ F files))
-status-iff None ended due words old new F f h = h
-status-iff (Some files) ended due words old new F f h =
-    unless-map ended (PutsAnswer files words old new ended) ((ended ≡ due) ↔ F files)
+status-iff None ended due words old new after F f h = h
+status-iff (Some files) ended due words old new after F f h =
+    unless-map ended (PutsAnswer files words old new after ended) ((ended ≡ due) ↔ F files)
     (λ puts. let both = f files puts.report puts.answer in (λ e. both.0 (sym puts.said ∙ e), λ x. puts.said ∙ both.1 x)) h
 
 pub unknown-status : (words : List (List ℕ)) (files : Files) (report : Report) → Answers files words report → (status_of report ≡ status.Unknown) ↔ SampledAgrees files words

@@ -1,6 +1,6 @@
 -- Each expression is read from the front of its text.
-use Rattle.std.proofs.Common.{◌≡◌, ℕ, zero, suc, ◌<◌, ◌≤◌, max, Bool, true, ◌&&◌, List, [], ◌∷◌, ◌++◌, codes, Option, Some, None, refl, sym, ◌∙◌, ap, append_assoc, arith}
-use Rattle.std.proofs.lemmas.Bool.{cond-true, and_parts, and_from}
+use Rattle.std.proofs.Common.{◌≡◌, ℕ, zero, suc, ◌<◌, max, true, ◌&&◌, List, [], ◌∷◌, ◌++◌, codes, Option, Some, None, refl, sym, ◌∙◌, ap, append_assoc, arith}
+use Rattle.std.proofs.lemmas.Bool.{cond-true, and_parts}
 use Rattle.trace_replay.specs.declared.expression.Wire.{Wire}
 use Rattle.trace_replay.specs.declared.expression.Wire.TheVariants.{ResetN, Select, Enable, Write, Address0, Address1}
 use Rattle.trace_replay.specs.declared.expression.Operator.{Operator}
@@ -8,7 +8,7 @@ use Rattle.trace_replay.specs.declared.expression.Operator.TheVariants.{And, Or,
 use Rattle.trace_replay.specs.declared.expression.Expression.{Expression}
 use Rattle.trace_replay.specs.declared.expression.Expression.TheVariants as e
 use Rattle.prove_top.specs.Spelling.{spelling, nest, has_digits, is_digit, wire_text, operator_text}
-use Rattle.prove_top.specs.Reading.{Read, then_read, marked, wire_at, operator_at, repeated_at, digit_at, constant_at, inverse_at, pair_at, form_at, expression_at}
+use Rattle.prove_top.specs.Reading.{wire_at, operator_at, repeated_at, digit_at, constant_at, inverse_at, pair_at, form_at, expression_at}
 use Rattle.prove_top.proofs.SpellingLemmas.{by_variant, spelling-Register, spelling-WriteData, spelling-Repeated, spelling-Constant, spelling-Not, spelling-Pair, nest-Not, nest-Pair, has_digits-Constant, has_digits-Not, has_digits-Pair}
 
 wire-complete : (wire : Wire) (rest : List ℕ) → wire_at (wire_text wire ++ rest) ≡ Some (wire, rest)

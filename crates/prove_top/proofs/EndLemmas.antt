@@ -1,5 +1,5 @@
 -- What is put, and what it says of the end of a command.
-use Rattle.std.proofs.Common.{◌≡◌, ℕ, zero, suc, List, [], ◌∷◌, ◌++◌, length, take, Option, Some, None, Result, Ok, Err, OnOk, OnErr, IfSome, ◌⊎◌, inl, inr, refl, sym, ap, subst, ◌∙◌, ◌+◌, ◌≤◌, ◌<◌, append-nil, append_assoc, arith}
+use Rattle.std.proofs.Common.{◌≡◌, ℕ, zero, suc, List, [], ◌∷◌, ◌++◌, length, take, Option, Some, None, Result, Ok, Err, OnOk, OnErr, IfSome, inl, inr, refl, sym, ap, subst, ◌∙◌, ◌+◌, ◌≤◌, ◌<◌, append-nil, append_assoc, arith}
 use Rattle.std.proofs.lemmas.Bool.{cases_lt}
 use Rattle.std.proofs.lemmas.List.{take-append-le}
 use Rattle.std.proofs.Math.Seq.{take-append_seam, take-append-add}
@@ -10,14 +10,16 @@ use Rattle.tool_edge.specs.Files.{Files}
 use Rattle.tool_edge.specs.Written.{after_put, AppendsPart}
 use Rattle.tool_edge.specs.declared.depot.DepotCall.{DepotCall}
 use Rattle.prove_top.specs.declared.report.Report.{Report}
-use Rattle.prove_top.specs.declared.report.Report.TheVariants.{Usage, Refused, WrongTrace, Refuted, Simulated, Agrees, Differs, FaultRead}
+use Rattle.prove_top.specs.declared.report.Report.TheVariants.{Usage, Refused, WrongTrace, Refuted, Simulated, Agrees, Differs, Fault}
 use Rattle.prove_top.specs.declared.report.Status.{Status}
 use Rattle.prove_top.specs.declared.report.Status.TheVariants as status
 use Rattle.prove_top.specs.declared.report.TheConstants.{MEMORY_LINE}
 use Rattle.prove_top.specs.Answer.{Answers, UnlessFault, TellsFailed, names_asked}
-use Rattle.prove_top.specs.Ends.{Ends, EndsPut, Completes, FailsPut, WantsMemory, MayReport, PutsAnswer, Ran, Reported, Wanting, UnlessFailed}
-use Rattle.prove_top.specs.Reads.{ReadsOnly, failed_of}
-use Rattle.prove_top.specs.Report.{status_of, text_of}
+use Rattle.prove_top.specs.Ends.{Ends, EndsPut, PutsAnswer, Runs, UnlessFailed}
+use Rattle.prove_top.specs.Reads.{Called, failed_of}
+use Rattle.prove_top.specs.Store.{Kept, Settles}
+use Rattle.prove_top.specs.Words.{trace_file}
+use Rattle.prove_top.specs.Report.{status_of}
 
 -- whatever a put answers, a part of the bytes is put
 pub put-part : {A E : Type 0} (r : Result A E) (old : Option (List ℕ)) (bytes : List ℕ) (new : Option (List ℕ))
@@ -50,53 +52,78 @@ completes-fact : (report : Report) (ended : Status) (A Q : Type 0) → UnlessFau
 completes-fact Usage ended A Q a said f = unless-any ended Q (f a)
 completes-fact (Refused why file) ended A Q a said f = unless-any ended Q (f a)
 completes-fact (WrongTrace why line file) ended A Q a said f = unless-any ended Q (f a)
-completes-fact (Refuted edge what trace) ended A Q a said f = unless-any ended Q (f a)
+completes-fact (Refuted edge what trace to) ended A Q a said f = unless-any ended Q (f a)
 completes-fact Simulated ended A Q a said f = unless-any ended Q (f a)
 completes-fact (Agrees edges) ended A Q a said f = unless-any ended Q (f a)
 completes-fact (Differs edge what) ended A Q a said f = unless-any ended Q (f a)
-completes-fact (FaultRead file) ended A Q a said f = unless-fault ended Q said
+completes-fact (Fault store file) ended A Q a said f = unless-fault ended Q said
 
-ends-answer-of : (files : Files) (report : Report) (words : List (List ℕ)) (old new : Option (List ℕ)) (before now : ℕ) (ended : Status)
-    → UnlessFault report (Answers files words report) → Ends report old new before now ended → UnlessFailed ended (PutsAnswer files words old new ended)
-ends-answer-of files report words old new before now ended answer (inl done) =
-    completes-fact report ended (Answers files words report) (PutsAnswer files words old new ended) answer done.said
-    (λ a. record { report = report; answer = a; said = done.said; put = done.written })
-ends-answer-of files report words old new before now ended answer (inr (inl fails)) = unless-fault ended (PutsAnswer files words old new ended) fails.said
-ends-answer-of files report words old new before now ended answer (inr (inr wants)) = unless-memory ended (PutsAnswer files words old new ended) wants.said
+ends-answer-of : (files : Files) (report : Report) (words : List (List ℕ)) (old new : Option (List ℕ)) (after : Option Files) (before now : ℕ) (ended : Status)
+    → UnlessFault report (Settles files words report after) → Ends report old new before now ended → UnlessFailed ended (PutsAnswer files words old new after ended)
+ends-answer-of files report words old new after before now ended answer (inl done) =
+    completes-fact report ended (Settles files words report after) (PutsAnswer files words old new after ended) answer done.said
+    (λ a. record { report = report; answer = a.answer; kept = a.kept; said = done.said; put = done.written })
+ends-answer-of files report words old new after before now ended answer (inr (inl fails)) = unless-fault ended (PutsAnswer files words old new after ended) fails.said
+ends-answer-of files report words old new after before now ended answer (inr (inr wants)) = unless-memory ended (PutsAnswer files words old new after ended) wants.said
 
-pub ends-answer : (told : Option Files) (report : Report) (words : List (List ℕ)) (old new : Option (List ℕ)) (before now : ℕ) (ended : Status)
-    → IfSome told (λ files. UnlessFault report (Answers files words report)) → Ends report old new before now ended
-    → IfSome told (λ files. UnlessFailed ended (PutsAnswer files words old new ended))
-ends-answer None report words old new before now ended answer ends = tt
-ends-answer (Some files) report words old new before now ended answer ends = ends-answer-of files report words old new before now ended answer ends
+pub ends-answer : (told : Option Files) (report : Report) (words : List (List ℕ)) (old new : Option (List ℕ)) (after : Option Files) (before now : ℕ) (ended : Status)
+    → IfSome told (λ files. UnlessFault report (Settles files words report after)) → Ends report old new before now ended
+    → IfSome told (λ files. UnlessFailed ended (PutsAnswer files words old new after ended))
+ends-answer None report words old new after before now ended answer ends = tt
+ends-answer (Some files) report words old new after before now ended answer ends = ends-answer-of files report words old new after before now ended answer ends
 
 at-told : (told : Option Files) (P : Files → Type 0) → IfSome told P → (files : Files) → told ≡ Some files → P files
 at-told None P h files is = cc
 at-told (Some others) P h files is = let same : others ≡ files = cc in subst P same h
 
+-- a fact that follows of a report
+pub report-map : (report : Report) (A B : Type 0) → (A → B) → UnlessFault report A → UnlessFault report B
+report-map Usage A B f a = f a
+report-map (Refused why file) A B f a = f a
+report-map (WrongTrace why line file) A B f a = f a
+report-map (Refuted edge what trace to) A B f a = f a
+report-map Simulated A B f a = f a
+report-map (Agrees edges) A B f a = f a
+report-map (Differs edge what) A B f a = f a
+report-map (Fault store file) A B f a = tt
+
+settled-answer : (files : Files) (words : List (List ℕ)) (report : Report) (after : Option Files) → UnlessFault report (Settles files words report after) → UnlessFault report (Answers files words report)
+settled-answer files words report after h = report-map report (Settles files words report after) (Answers files words report) (λ s. s.answer) h
+
 -- a command that ends with a report, and one that wants memory before
-pub reads-ran : (told : Option Files) (words : List (List ℕ)) (calls_before calls_after : Option (List DepotCall)) (report : Report)
+pub calls-run : (told after : Option Files) (words : List (List ℕ)) (calls_before calls_after : Option (List DepotCall)) (report : Report)
     (old new : Option (List ℕ)) (before now : ℕ) (ended : Status)
-    → ReadsOnly (names_asked words) calls_before calls_after (λ added. TellsFailed report (failed_of added))
-    → IfSome told (λ files. UnlessFault report (Answers files words report)) → Ends report old new before now ended
-    → ReadsOnly (names_asked words) calls_before calls_after (Ran told words old new before now ended)
-reads-ran told words calls_before calls_after report old new before now ended all answer ends = record {
+    → Called (names_asked words) (trace_file words) calls_before calls_after (λ added. TellsFailed report (failed_of added) × Kept told words added after)
+    → IfSome told (λ files. UnlessFault report (Settles files words report after)) → Ends report old new before now ended
+    → Called (names_asked words) (trace_file words) calls_before calls_after (Runs told after words old new before now ended)
+calls-run told after words calls_before calls_after report old new before now ended all answer ends = record {
   added = all.added;
   told = all.told;
-  reads = all.reads;
-  ends = inl (record {
-    report = report;
-    may = record { failure = all.ends; answer = at-told told (λ files. UnlessFault report (Answers files words report)) answer };
-    ends = ends;
-  });
+  calls = all.calls;
+  ends = record {
+    ran = inl (record {
+      report = report;
+      may = record {
+        failure = all.ends.0;
+        answer = λ files is. settled-answer files words report after (at-told told (λ given. UnlessFault report (Settles given words report after)) answer files is);
+      };
+      ends = ends;
+    });
+    kept = all.ends.1;
+  };
 }
 
-pub reads-wanting : (told : Option Files) (words : List (List ℕ)) (calls_before calls_after : Option (List DepotCall)) (P : List DepotCall → Type 0)
+pub calls-wanting : (told after : Option Files) (words : List (List ℕ)) (calls_before calls_after : Option (List DepotCall)) (A : List DepotCall → Type 0)
     (old new : Option (List ℕ)) (before now : ℕ) (ended : Status)
-    → ReadsOnly (names_asked words) calls_before calls_after P → ended ≡ status.NoMemory → AppendsPart old MEMORY_LINE.now new
-    → ReadsOnly (names_asked words) calls_before calls_after (Ran told words old new before now ended)
-reads-wanting told words calls_before calls_after P old new before now ended all said part =
-    record { added = all.added; told = all.told; reads = all.reads; ends = inr (record { said = said; written = part }) }
+    → Called (names_asked words) (trace_file words) calls_before calls_after (λ added. A added × Kept told words added after) → ended ≡ status.NoMemory
+    → AppendsPart old MEMORY_LINE.now new
+    → Called (names_asked words) (trace_file words) calls_before calls_after (Runs told after words old new before now ended)
+calls-wanting told after words calls_before calls_after A old new before now ended all said part = record {
+  added = all.added;
+  told = all.told;
+  calls = all.calls;
+  ends = record { ran = inr (record { said = said; written = part }); kept = all.ends.1 };
+}
 
 -- a text of two parts, put one after the other
 take-over : (n : ℕ) (xs : List ℕ) → length xs < n → take n xs ≡ xs

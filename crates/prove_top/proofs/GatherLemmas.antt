@@ -1,8 +1,7 @@
 -- One more file, and the end: what the files gathered so far and the calls so far come to.
-use Rattle.std.proofs.Common.{◌≡◌, ℕ, ◌+◌, ◌<◌, ◌≤◌, Bool, false, List, [], ◌∷◌, ◌++◌, length, take, drop, map, get_or, Option, Some, None, Result, Ok, Err, IfSome, refl, sym, ◌∙◌, ap, subst, add-one, append_assoc, take-append-drop, arith, Vec, Global}
+use Rattle.std.proofs.Common.{◌≡◌, ℕ, ◌+◌, ◌<◌, ◌≤◌, Bool, false, List, [], ◌∷◌, ◌++◌, length, take, drop, get_or, Option, Some, None, Result, Ok, Err, IfSome, refl, sym, ◌∙◌, ap, subst, add-one, append_assoc, take-append-drop, Vec, Global}
 use Rattle.std.proofs.Math.Seq.{drop-cons, take-suc}
-use Rattle.std.proofs.lemmas.List.{map-append}
-use Rattle.std.specs.Option.{option_map}
+use Rattle.std.proofs.lemmas.List.{map-append, take_all}
 use Rattle.tool_edge.specs.Files.{Files}
 use Rattle.tool_edge.specs.Calls.{one_call, after_calls}
 use Rattle.tool_edge.specs.declared.depot.DepotCall.{DepotCall}
@@ -13,18 +12,13 @@ use Rattle.prove_top.specs.declared.gather.Shortfall.{Shortfall}
 use Rattle.prove_top.specs.declared.gather.Shortfall.TheVariants as short
 use Rattle.prove_top.specs.declared.gather.Halt.{Halt}
 use Rattle.prove_top.specs.declared.gather.Halt.TheVariants as halt
-use Rattle.prove_top.specs.Gather.{names_of, fetched_one, gather_more, gathered, contents, IfShort, AnswersAs, AnswersOne}
-use Rattle.prove_top.specs.Reads.{AreReads, GoesOn, failed_of, failed_name, HaltedBy, HasEntry, ShortEntry, ReadsOnly}
+use Rattle.prove_top.specs.Gather.{names_of, fetched_one, gather_more, gathered, contents, IfShort}
+use Rattle.prove_top.specs.Reads.{AreReads, GoesOn, failed_of, FailedBy, HaltedBy, HasEntry, ReadsOnly, whole_reads}
 
 -- files in front of those gathered
 abbrev pub prepended : List (List ℕ) → Result (List (List ℕ)) Shortfall → Result (List (List ℕ)) Shortfall
 prepended front (Ok files) = Ok (front ++ files)
 prepended front (Err shortfall) = Err shortfall
-
--- the calls of reads that were all whole
-abbrev pub whole_reads : List (List ℕ) → List DepotCall
-whole_reads [] = []
-whole_reads (name ∷ names) = record { name = name; store = false; answer = answered.Whole } ∷ whole_reads names
 
 prepended-more : (front : List (List ℕ)) (bytes : List ℕ) (rest : Result (List (List ℕ)) Shortfall)
     → prepended front (gather_more (Ok bytes) rest) ≡ prepended (front ++ bytes ∷ []) rest
@@ -118,26 +112,26 @@ entry-reads name (halt.Short (short.Missing which)) calls entry = let P : List D
 entry-reads name (halt.Short (short.Long kind which)) calls entry = let P : List DepotCall → Type 0 = λ cs. AreReads (name ∷ []) cs in subst P (sym entry) (refl, refl, refl)
 entry-reads name halt.NoMemory calls entry = entry
 
-pub entry-halted : (A : Type 0) (name : List ℕ) (why : Halt) (calls : List DepotCall) → HasEntry {A = Vec ℕ Global} name (Err why) calls → HaltedBy {A = A} (Err why) (failed_of calls)
-entry-halted A name (halt.Failed which) calls entry = ap failed_of entry.1 ∙ ap Some (sym entry.0)
-entry-halted A name (halt.Short (short.Missing which)) calls entry = ap failed_of entry
-entry-halted A name (halt.Short (short.Long kind which)) calls entry = ap failed_of entry
-entry-halted A name halt.NoMemory calls entry = tt
+pub entry-halted : (name : List ℕ) (why : Halt) (calls : List DepotCall) → HasEntry {A = Vec ℕ Global} name (Err why) calls → FailedBy why (failed_of calls)
+entry-halted name (halt.Failed which) calls entry = ap failed_of entry.1 ∙ ap (λ n. Some (false, n)) (sym entry.0)
+entry-halted name (halt.Short (short.Missing which)) calls entry = ap failed_of entry
+entry-halted name (halt.Short (short.Long kind which)) calls entry = ap failed_of entry
+entry-halted name halt.NoMemory calls entry = tt
 
 -- all that was called where one read halts after others that were whole
 pub reads-halted : (A : Type 0) (before middle after : Option (List DepotCall)) (wanted : List Wanted) (i : ℕ) (want : Wanted) (why : Halt)
     → i < length wanted → want ≡ get_or wanted i want
     → middle ≡ after_calls before (whole_reads (names_of (take i wanted)))
     → ReadsOnly (want.name ∷ []) middle after (HasEntry {A = Vec ℕ Global} want.name (Err why))
-    → ReadsOnly (names_of wanted) before after (λ added. HaltedBy {A = A} (Err why) (failed_of added))
+    → ReadsOnly (names_of wanted) before after (HaltedBy {A = A} (names_of wanted) (Err why))
 reads-halted A before middle after wanted i want why below is so_far one =
     let front = whole_reads (names_of (take i wanted)) in
-    let P : Option (List ℕ) → Type 0 = λ failed. HaltedBy {A = A} (Err why) failed in
+    let P : Option (Bool × List ℕ) → Type 0 = λ failed. FailedBy why failed in
     record {
       added = front ++ one.added;
       told = one.told ∙ ap (λ told. after_calls told one.added) so_far ∙ after_calls-twice before front one.added;
       reads = reads_after wanted i want one.added below is (entry-reads want.name why one.added one.ends);
-      ends = subst P (sym (failed-whole (names_of (take i wanted)) one.added)) (entry-halted A want.name why one.added one.ends);
+      ends = subst P (sym (failed-whole (names_of (take i wanted)) one.added)) (entry-halted want.name why one.added one.ends);
     }
 
 -- the calls after one more file
@@ -152,15 +146,11 @@ calls-step before middle after wanted i want bytes below is so_far one =
     ∙ after_calls-twice before (whole_reads (names_of (take i wanted))) (one_call want.name false answered.Whole)
     ∙ ap (after_calls before) (sym (whole_reads-step wanted i want below is))
 
-failed-whole-none : (names : List (List ℕ)) → failed_of (whole_reads names) ≡ None
-failed-whole-none [] = refl
-failed-whole-none (name ∷ names) = failed-whole-none names
-
 -- the calls where all files are whole
-pub reads-all : (before after : Option (List DepotCall)) (wanted : List Wanted) (i : ℕ)
+reads-so-far : (before after : Option (List DepotCall)) (wanted : List Wanted) (i : ℕ)
     → after ≡ after_calls before (whole_reads (names_of (take i wanted)))
-    → ReadsOnly (names_of wanted) before after (λ added. failed_of added ≡ None)
-reads-all before after wanted i so_far =
+    → ReadsOnly (names_of wanted) before after (λ added. added ≡ whole_reads (names_of (take i wanted)))
+reads-so-far before after wanted i so_far =
     let P : List (List ℕ) → Type 0 = λ names. AreReads names (whole_reads (names_of (take i wanted))) in
     let parts : names_of (take i wanted) ++ names_of (drop i wanted) ≡ names_of wanted =
     sym (map-append (λ w. w.name) (take i wanted) (drop i wanted)) ∙ ap names_of (take-append-drop i wanted) in
@@ -168,13 +158,20 @@ reads-all before after wanted i so_far =
       added = whole_reads (names_of (take i wanted));
       told = so_far;
       reads = subst P parts (reads_whole (names_of (take i wanted)) (names_of (drop i wanted)));
-      ends = failed-whole-none (names_of (take i wanted));
+      ends = refl;
     }
+
+pub reads-all : (before after : Option (List DepotCall)) (wanted : List Wanted) (i : ℕ) → length wanted ≤ i
+    → after ≡ after_calls before (whole_reads (names_of (take i wanted)))
+    → ReadsOnly (names_of wanted) before after (λ added. added ≡ whole_reads (names_of wanted))
+reads-all before after wanted i over so_far =
+    let all = reads-so-far before after wanted i so_far in
+    record { added = all.added; told = all.told; reads = all.reads; ends = all.ends ∙ ap (λ w. whole_reads (names_of w)) (take_all i wanted over) }
 
 -- the calls where memory is wanted after a whole file
 pub reads-wanting-memory : (before after : Option (List DepotCall)) (wanted : List Wanted) (i : ℕ)
     → after ≡ after_calls before (whole_reads (names_of (take (i + 1) wanted)))
     → ReadsOnly (names_of wanted) before after (λ added. Unit {0})
 reads-wanting-memory before after wanted i so_far =
-    let all = reads-all before after wanted (i + 1) so_far in
+    let all = reads-so-far before after wanted (i + 1) so_far in
     record { added = all.added; told = all.told; reads = all.reads; ends = tt }

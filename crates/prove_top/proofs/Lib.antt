@@ -13,3 +13,4 @@ mod ClauseLemmas
 mod WordLemmas
 mod RefutedLemmas
 mod RefusalLemmas
+mod StoreLemmas

@@ -3,7 +3,7 @@ use Rattle.std.proofs.Common.{◌≡◌, ℕ, ◌<◌, ◌≤◌, Bool, List, []
 use Rattle.tool_edge.specs.Files.{Files}
 use Rattle.tool_edge.specs.declared.depot.DepotCall.{DepotCall}
 use Rattle.prove_top.specs.declared.report.Report.{Report}
-use Rattle.prove_top.specs.declared.report.Report.TheVariants.{Usage, Refused, WrongTrace, Refuted, Simulated, Agrees, Differs, FaultRead}
+use Rattle.prove_top.specs.declared.report.Report.TheVariants.{Usage, Refused, WrongTrace, Refuted, Simulated, Agrees, Differs, Fault}
 use Rattle.prove_top.specs.declared.words.Command.{Command}
 use Rattle.prove_top.specs.declared.words.Task.{Task}
 use Rattle.prove_top.specs.declared.words.Work.{Work}
@@ -21,65 +21,84 @@ use Rattle.trace_replay.specs.Lines.{lines_of}
 use Rattle.trace_replay.specs.Reading.{IsIllegal, IsWrongLine, IsWrongName, Refuses}
 use Rattle.trace_replay.specs.Trace.{trace_difference}
 use Rattle.trace_replay.specs.TraceText.{trace_text}
-use Rattle.prove_top.specs.Answer.{IsAnswer, IsUsage, IfFault, UnlessFault, TellsFailed, Answers, CommandAnswer, AskedAnswer, TaskAnswer, FilesAnswer, TextsAnswer, WorkAnswer, ReplayAnswer, Replays, block_of, block_wanted, wanted_for, wanted_of, short_report, sample_report, trace_report, wrong_report, text_at}
+use Rattle.prove_top.specs.Answer.{ComesAfter, IsAnswer, IsUsage, IfFault, UnlessFault, TellsFailed, Answers, CommandAnswer, AskedAnswer, TaskAnswer, FilesAnswer, TextsAnswer, WorkAnswer, ReplayAnswer, Replays, block_of, block_wanted, wanted_for, wanted_of, short_report, sample_report, trace_report, wrong_report, text_at}
 use Rattle.prove_top.specs.declared.gather.Wanted.{Wanted}
 use Rattle.prove_top.specs.Gather.{contents, gathered, names_of}
-use Rattle.prove_top.specs.Reads.{AreReads, ReadsOnly, failed_of}
+use Rattle.prove_top.specs.Reads.{AreReads, ReadsOnly, failed_of, whole_reads}
+use Rattle.prove_top.specs.Report.{file_of}
 use Rattle.std.proofs.lemmas.List.{get_or-map}
 use Rattle.prove_top.specs.Words.{command_of, task_of}
 
-answer-usage : (report : Report) → IsAnswer report → IsUsage report → ⊥
-answer-usage Usage answer usage = answer
-answer-usage (Refused why file) answer usage = usage
-answer-usage (Refuted edge what trace) answer usage = usage
-answer-usage Simulated answer usage = usage
-answer-usage (WrongTrace why line file) answer usage = usage
-answer-usage (Agrees edges) answer usage = usage
-answer-usage (Differs edge what) answer usage = usage
-answer-usage (FaultRead file) answer usage = usage
+answer-usage : (asked : Option (List ℕ)) (report : Report) → IsAnswer asked report → IsUsage report → ⊥
+answer-usage asked Usage answer usage = answer
+answer-usage asked (Refused why file) answer usage = usage
+answer-usage asked (Refuted edge what trace to) answer usage = usage
+answer-usage asked Simulated answer usage = usage
+answer-usage asked (WrongTrace why line file) answer usage = usage
+answer-usage asked (Agrees edges) answer usage = usage
+answer-usage asked (Differs edge what) answer usage = usage
+answer-usage asked (Fault store file) answer usage = usage
 
-answer-tells : (report : Report) (failed : Option (List ℕ)) → IsAnswer report → failed ≡ None → TellsFailed report failed
-answer-tells Usage failed answer none = none
-answer-tells (Refused why file) failed answer none = none
-answer-tells (Refuted edge what trace) failed answer none = none
-answer-tells Simulated failed answer none = none
-answer-tells (WrongTrace why line file) failed answer none = none
-answer-tells (Agrees edges) failed answer none = none
-answer-tells (Differs edge what) failed answer none = none
-answer-tells (FaultRead file) failed answer none = absurd answer
+answer-tells : (asked : Option (List ℕ)) (report : Report) (failed : Option (Bool × List ℕ)) → IsAnswer asked report → failed ≡ None → TellsFailed report failed
+answer-tells asked Usage failed answer none = none
+answer-tells asked (Refused why file) failed answer none = none
+answer-tells asked (Refuted edge what trace to) failed answer none = none
+answer-tells asked Simulated failed answer none = none
+answer-tells asked (WrongTrace why line file) failed answer none = none
+answer-tells asked (Agrees edges) failed answer none = none
+answer-tells asked (Differs edge what) failed answer none = none
+answer-tells asked (Fault store file) failed answer none = absurd answer
 
-answer-rose : (report : Report) (P : Type 0) → IsAnswer report → IfFault report P
-answer-rose Usage P answer = tt
-answer-rose (Refused why file) P answer = tt
-answer-rose (Refuted edge what trace) P answer = tt
-answer-rose Simulated P answer = tt
-answer-rose (WrongTrace why line file) P answer = tt
-answer-rose (Agrees edges) P answer = tt
-answer-rose (Differs edge what) P answer = tt
-answer-rose (FaultRead file) P answer = absurd answer
+answer-rose : (asked : Option (List ℕ)) (report : Report) (P : Type 0) → IsAnswer asked report → IfFault report P
+answer-rose asked Usage P answer = tt
+answer-rose asked (Refused why file) P answer = tt
+answer-rose asked (Refuted edge what trace to) P answer = tt
+answer-rose asked Simulated P answer = tt
+answer-rose asked (WrongTrace why line file) P answer = tt
+answer-rose asked (Agrees edges) P answer = tt
+answer-rose asked (Differs edge what) P answer = tt
+answer-rose asked (Fault store file) P answer = absurd answer
 
-pub answered-usage : {E : Type 0} (r : Result Report E) → IfOk r IsAnswer → IfOk r (λ report. IsUsage report → ⊥)
-answered-usage (Ok report) answer = answer-usage report answer
-answered-usage (Err e) answer = tt
+pub answered-usage : {E : Type 0} (asked : Option (List ℕ)) (r : Result Report E) → IfOk r (IsAnswer asked) → IfOk r (λ report. IsUsage report → ⊥)
+answered-usage asked (Ok report) answer = answer-usage asked report answer
+answered-usage asked (Err e) answer = tt
 
-pub answered-rose : {E : Type 0} (P : Type 0) (r : Result Report E) → IfOk r IsAnswer → IfOk r (λ report. IfFault report P)
-answered-rose P (Ok report) answer = answer-rose report P answer
-answered-rose P (Err e) answer = tt
+pub answered-rose : {E : Type 0} (asked : Option (List ℕ)) (P : Type 0) (r : Result Report E) → IfOk r (IsAnswer asked) → IfOk r (λ report. IfFault report P)
+answered-rose asked P (Ok report) answer = answer-rose asked report P answer
+answered-rose asked P (Err e) answer = tt
 
-answered-tells : {E : Type 0} (r : Result Report E) (failed : Option (List ℕ)) → IfOk r IsAnswer → failed ≡ None → IfOk r (λ report. TellsFailed report failed)
-answered-tells (Ok report) failed answer none = answer-tells report failed answer none
-answered-tells (Err e) failed answer none = tt
+answer-file : (asked : Option (List ℕ)) (report : Report) (name : List ℕ) → IsAnswer asked report → file_of report ≡ Some name → asked ≡ Some name
+answer-file asked Usage name answer is = cc
+answer-file asked (Refused why file) name answer is = cc
+answer-file asked (Refuted edge what trace to) name answer is = sym answer ∙ is
+answer-file asked Simulated name answer is = cc
+answer-file asked (WrongTrace why line file) name answer is = cc
+answer-file asked (Agrees edges) name answer is = cc
+answer-file asked (Differs edge what) name answer is = cc
+answer-file asked (Fault store file) name answer is = cc
 
-pub reads-answered : {E : Type 0} (asked wanted : List Wanted) (before after : Option (List DepotCall)) (r : Result Report E) → asked ≡ wanted → IfOk r IsAnswer
-    → ReadsOnly (names_of asked) before after (λ added. failed_of added ≡ None)
-    → ReadsOnly (names_of wanted) before after (λ added. IfOk r (λ report. TellsFailed report (failed_of added)))
-reads-answered asked wanted before after r same answer all =
+whole-none : (names : List (List ℕ)) → failed_of (whole_reads names) ≡ None
+whole-none [] = refl
+whole-none (name ∷ names) = whole-none names
+
+comes-answered : {E : Type 0} (names : List (List ℕ)) (asked : Option (List ℕ)) (r : Result Report E) (added : List DepotCall) → IfOk r (IsAnswer asked) → added ≡ whole_reads names
+    → IfOk r (λ report. ComesAfter names asked report added)
+comes-answered names asked (Ok report) added answer whole = record {
+  failure = answer-tells asked report (failed_of added) answer (ap failed_of whole ∙ whole-none names);
+  whole = λ name is. (whole, answer-file asked report name answer is);
+}
+comes-answered names asked (Err e) added answer whole = tt
+
+pub reads-answered : {E : Type 0} (wanted due : List Wanted) (asked : Option (List ℕ)) (before after : Option (List DepotCall)) (r : Result Report E) → wanted ≡ due → IfOk r (IsAnswer asked)
+    → ReadsOnly (names_of wanted) before after (λ added. added ≡ whole_reads (names_of wanted))
+    → ReadsOnly (names_of due) before after (λ added. IfOk r (λ report. ComesAfter (names_of due) asked report added))
+reads-answered wanted due asked before after r same answer all =
     let P : List Wanted → Type 0 = λ w. AreReads (names_of w) all.added in
     record {
       added = all.added;
       told = all.told;
       reads = subst P same all.reads;
-      ends = answered-tells r (failed_of all.added) answer all.ends;
+      ends = comes-answered (names_of due) asked r all.added answer (all.ends ∙ ap (λ w. whole_reads (names_of w)) same);
     }
 
 pub plan-answer : {E : Type 0} (told : Option Files) (r : Result Report E) (words : List (List ℕ)) (command : Command) (task : Task) → command_of words ≡ Some command → task_of command ≡ Some task
@@ -98,11 +117,11 @@ any-answer : (report : Report) (A : Type 0) → A → UnlessFault report A
 any-answer Usage A a = a
 any-answer (Refused why file) A a = a
 any-answer (WrongTrace why line file) A a = a
-any-answer (Refuted edge what trace) A a = a
+any-answer (Refuted edge what trace to) A a = a
 any-answer Simulated A a = a
 any-answer (Agrees edges) A a = a
 any-answer (Differs edge what) A a = a
-any-answer (FaultRead file) A a = tt
+any-answer (Fault store file) A a = tt
 
 -- the answer to gathered files, and to files that lack something
 pub texts-answer : {E : Type 0} (told : Option Files) (task : Task) (asked : List Wanted) (texts : List (List ℕ)) (r : Result Report E) → asked ≡ wanted_of task

@@ -1,5 +1,5 @@
 -- One more expression needs one of the room.
-use Rattle.std.proofs.Common.{◌≡◌, ℕ, zero, suc, ◌-◌, ◌<◌, List, Option, Some, None, Result, refl, sym, ap, subst, arith, sub-one}
+use Rattle.std.proofs.Common.{◌≡◌, ℕ, zero, suc, ◌-◌, ◌<◌, List, None, Result, refl, sym, subst, arith}
 use Rattle.trace_replay.specs.declared.expression.Expression.{Expression}
 use Rattle.prove_top.specs.declared.cursor.Stop.{Stop}
 use Rattle.prove_top.specs.Reading.{Read, Reads, expression_at, form_at}

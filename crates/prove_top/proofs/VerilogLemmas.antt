@@ -1,5 +1,5 @@
 -- The Verilog text of two expressions is read as them, and only it is.
-use Rattle.std.proofs.Common.{◌≡◌, ℕ, ◌+◌, ◌-◌, ◌<◌, ◌≤◌, Bool, true, false, if◌then◌else◌, List, [], ◌∷◌, ◌++◌, length, take, drop, Option, Some, None, refl, sym, ◌∙◌, ap, subst, append-nil, length-append, arith}
+use Rattle.std.proofs.Common.{◌≡◌, ℕ, ◌+◌, ◌-◌, ◌<◌, ◌≤◌, true, List, [], ◌∷◌, ◌++◌, length, take, Some, None, refl, sym, ◌∙◌, ap, append-nil, length-append, arith}
 use Rattle.std.proofs.Math.Seq.{take-append_seam, drop-append_seam}
 use Rattle.std.proofs.lemmas.Bool.{cond-true, le-leb, leb-true}
 use Rattle.std.proofs.lemmas.Slice.Eq.{bytes_eq-Decides}
@@ -7,11 +7,11 @@ use Rattle.trace_replay.specs.declared.expression.Expression.{Expression}
 use Rattle.prove_top.specs.declared.verilog.Drivers.{Drivers}
 use Rattle.prove_top.specs.declared.verilog.TheConstants.{VERILOG_HEAD, VERILOG_MIDDLE, VERILOG_TAIL}
 use Rattle.prove_top.specs.declared.expressions.TheConstants.{NEST_LIMIT, LENGTH_LIMIT}
-use Rattle.prove_top.specs.Spelling.{spelling, nest, has_digits, IsFirstForm}
-use Rattle.prove_top.specs.Reading.{Read, then_read, begins, past, marked, expression_at, limited_at}
+use Rattle.prove_top.specs.Spelling.{spelling, nest, IsFirstForm}
+use Rattle.prove_top.specs.Reading.{Read, begins, past, marked, expression_at, limited_at}
 use Rattle.prove_top.specs.Verilog.{two_at, drivers_at, drivers_of, verilog_text, whole, whole_at, AreFirstForm}
 use Rattle.prove_top.proofs.CompleteLemmas.{complete}
-use Rattle.prove_top.proofs.SoundLemmas.{sound, StandsAt, then_cases, same_pair, marked_sound, if_cases, none_some}
+use Rattle.prove_top.proofs.SoundLemmas.{sound, then_cases, same_pair, marked_sound, if_cases, none_some}
 
 -- a mark at the front of a text is read
 marked-front : {A : Type 0} (text : List ℕ) (value : A) (rest : List ℕ) → marked text value (text ++ rest) ≡ Some (value, rest)

@@ -22,7 +22,7 @@ use Rattle.prove_top.specs.declared.plan.TheConstants.{DESCRIPTION_LIMIT, PORTS_
 use Rattle.prove_top.specs.declared.report.Refusal.{Refusal}
 use Rattle.prove_top.specs.declared.report.Refusal.TheVariants.{RdlSize, VlogSize, PortSize, TraceSize, NoFile, NotYet}
 use Rattle.prove_top.specs.declared.report.Report.{Report}
-use Rattle.prove_top.specs.declared.report.Report.TheVariants.{Usage, Refused, WrongTrace, Refuted, Simulated, Agrees, Differs, FaultRead}
+use Rattle.prove_top.specs.declared.report.Report.TheVariants.{Usage, Refused, WrongTrace, Refuted, Simulated, Agrees, Differs, Fault}
 use Rattle.prove_top.specs.declared.verilog.Drivers.{Drivers}
 use Rattle.prove_top.specs.declared.words.Command.{Command}
 use Rattle.prove_top.specs.declared.words.Task.{Task}
@@ -30,6 +30,9 @@ use Rattle.prove_top.specs.declared.words.Work.{Work}
 use Rattle.prove_top.specs.declared.words.Work.TheVariants as work
 use Rattle.prove_top.specs.Description.{reset_of}
 use Rattle.prove_top.specs.Gather.{gathered, names_of}
+use Rattle.prove_top.specs.Reads.{failed_of, whole_reads}
+use Rattle.prove_top.specs.Report.{file_of}
+use Rattle.tool_edge.specs.declared.depot.DepotCall.{DepotCall}
 use Rattle.prove_top.specs.Sampled.{sampled, sampled_trace}
 use Rattle.prove_top.specs.Verilog.{drivers_of}
 use Rattle.prove_top.specs.Words.{command_of, task_of, task_asked}
@@ -79,16 +82,17 @@ block_with (Some reset) (Some drivers) true = Ok (first_block reset drivers.read
 abbrev pub block_of : List ℕ → List ℕ → List ℕ → Result Block Kind
 block_of rdl ports verilog = block_with (reset_of rdl) (drivers_of verilog) (bytes_eq ports PORTS.now)
 
--- the report of the sampled run: its first difference, and its trace, cut after that edge
-abbrev pub difference_report : Block → ℕ → Option (ℕ × Difference) → Report
-difference_report block seed None = Simulated
-difference_report block seed (Some first) = Refuted first.0 first.1 (sampled_trace block seed first.0)
+-- the report of the sampled run: its first difference, and its trace, cut after that edge, with the name
+-- of the file that it is to be stored in
+abbrev pub difference_report : Block → ℕ → Option (List ℕ) → Option (ℕ × Difference) → Report
+difference_report block seed to None = Simulated
+difference_report block seed to (Some first) = Refuted first.0 first.1 (sampled_trace block seed first.0) to
 
-unfoldable pub run_report : Block → ℕ → Report
-run_report block seed = difference_report block seed (sampled block seed)
+unfoldable pub run_report : Block → ℕ → Option (List ℕ) → Report
+run_report block seed to = difference_report block seed to (sampled block seed)
 
 abbrev pub sample_report : Task → ℕ → Result Block Kind → Report
-sample_report task seed (Ok block) = run_report block seed
+sample_report task seed (Ok block) = run_report block seed task.trace_file
 sample_report task seed (Err kind) = Refused NotYet (name_of task kind)
 
 -- a text is that of a legal trace of the block, whose run has this first difference, or none
@@ -117,9 +121,9 @@ Replays block name text (Refused PortSize file) = ⊥
 Replays block name text (Refused NoFile file) = ⊥
 Replays block name text (Refused NotYet file) = ⊥
 Replays block name text Usage = ⊥
-Replays block name text (Refuted edge what trace) = ⊥
+Replays block name text (Refuted edge what trace to) = ⊥
 Replays block name text Simulated = ⊥
-Replays block name text (FaultRead file) = ⊥
+Replays block name text (Fault store file) = ⊥
 
 abbrev pub ReplayAnswer : Task → List ℕ → List ℕ → Result Block Kind → Report → Type 0
 ReplayAnswer task trace text (Ok block) report = Replays block trace text report
@@ -180,49 +184,55 @@ abbrev pub IsUsage : Report → Type 0
 IsUsage Usage = ⊤
 IsUsage (Refused why file) = ⊥
 IsUsage (WrongTrace why line file) = ⊥
-IsUsage (Refuted edge what trace) = ⊥
+IsUsage (Refuted edge what trace to) = ⊥
 IsUsage Simulated = ⊥
 IsUsage (Agrees edges) = ⊥
 IsUsage (Differs edge what) = ⊥
-IsUsage (FaultRead file) = ⊥
+IsUsage (Fault store file) = ⊥
 
-abbrev pub IsAnswer : Report → Type 0
-IsAnswer Usage = ⊥
-IsAnswer (Refused why file) = ⊤
-IsAnswer (WrongTrace why line file) = ⊤
-IsAnswer (Refuted edge what trace) = ⊤
-IsAnswer Simulated = ⊤
-IsAnswer (Agrees edges) = ⊤
-IsAnswer (Differs edge what) = ⊤
-IsAnswer (FaultRead file) = ⊥
+-- an answer to files, whose trace is for this file, if for one
+abbrev pub IsAnswer : Option (List ℕ) → Report → Type 0
+IsAnswer to Usage = ⊥
+IsAnswer to (Refused why file) = ⊤
+IsAnswer to (WrongTrace why line file) = ⊤
+IsAnswer to (Refuted edge what trace file) = file ≡ to
+IsAnswer to Simulated = ⊤
+IsAnswer to (Agrees edges) = ⊤
+IsAnswer to (Differs edge what) = ⊤
+IsAnswer to (Fault store file) = ⊥
 
 abbrev pub IfFault : Report → Type 0 → Type 0
-IfFault (FaultRead file) P = P
+IfFault (Fault store file) P = P
 IfFault Usage P = ⊤
 IfFault (Refused why file) P = ⊤
 IfFault (WrongTrace why line file) P = ⊤
-IfFault (Refuted edge what trace) P = ⊤
+IfFault (Refuted edge what trace to) P = ⊤
 IfFault Simulated P = ⊤
 IfFault (Agrees edges) P = ⊤
 IfFault (Differs edge what) P = ⊤
 
 abbrev pub UnlessFault : Report → Type 0 → Type 0
-UnlessFault (FaultRead file) P = ⊤
+UnlessFault (Fault store file) P = ⊤
 UnlessFault Usage P = P
 UnlessFault (Refused why file) P = P
 UnlessFault (WrongTrace why line file) P = P
-UnlessFault (Refuted edge what trace) P = P
+UnlessFault (Refuted edge what trace to) P = P
 UnlessFault Simulated P = P
 UnlessFault (Agrees edges) P = P
 UnlessFault (Differs edge what) P = P
 
--- a report names the read that failed, where one did
-abbrev pub TellsFailed : Report → Option (List ℕ) → Type 0
-TellsFailed (FaultRead name) failed = failed ≡ Some name
+-- a report names the call that failed, where one did
+abbrev pub TellsFailed : Report → Option (Bool × List ℕ) → Type 0
+TellsFailed (Fault store file) failed = failed ≡ Some (store, file)
 TellsFailed Usage failed = failed ≡ None
 TellsFailed (Refused why file) failed = failed ≡ None
 TellsFailed (WrongTrace why line file) failed = failed ≡ None
-TellsFailed (Refuted edge what trace) failed = failed ≡ None
+TellsFailed (Refuted edge what trace to) failed = failed ≡ None
 TellsFailed Simulated failed = failed ≡ None
 TellsFailed (Agrees edges) failed = failed ≡ None
 TellsFailed (Differs edge what) failed = failed ≡ None
+
+-- the reads that a report comes after: whole ones of all names, where the file of its name is to be stored
+pub record ComesAfter (names : List (List ℕ)) (to : Option (List ℕ)) (report : Report) (added : List DepotCall) : Type 0 where
+  pub failure : TellsFailed report (failed_of added)
+  pub whole : (name : List ℕ) → file_of report ≡ Some name → (added ≡ whole_reads names) × (to ≡ Some name)

@@ -1,5 +1,5 @@
 -- How a command ends: its report put, a put that failed, or want of memory.
-use Rattle.std.specs.Prelude.{◌≡◌, ℕ, Option, Some, List, ◌⊎◌, ⊤}
+use Rattle.std.specs.Prelude.{◌≡◌, ℕ, Bool, Option, Some, List, ◌⊎◌, ⊤}
 use Rattle.tool_edge.specs.Causes.{Rose}
 use Rattle.tool_edge.specs.Files.{Files}
 use Rattle.tool_edge.specs.Written.{after_put, AppendsPart}
@@ -8,7 +8,8 @@ use Rattle.prove_top.specs.declared.report.Report.{Report}
 use Rattle.prove_top.specs.declared.report.Status.{Status}
 use Rattle.prove_top.specs.declared.report.Status.TheVariants as status
 use Rattle.prove_top.specs.declared.report.TheConstants.{MEMORY_LINE}
-use Rattle.prove_top.specs.Report.{status_of, text_of}
+use Rattle.prove_top.specs.Report.{file_of, run_trace, status_of, text_of}
+use Rattle.prove_top.specs.Store.{Kept, files_after}
 use Rattle.prove_top.specs.Answer.{Answers, UnlessFault, TellsFailed}
 use Rattle.prove_top.specs.Reads.{failed_of}
 
@@ -35,8 +36,8 @@ EndsPut due text old new before now ended =
 abbrev pub Ends : Report → Option (List ℕ) → Option (List ℕ) → ℕ → ℕ → Status → Type 0
 Ends report old new before now ended = EndsPut (status_of report) (text_of report) old new before now ended
 
--- a report that the command may give: about the read that failed, else one that the told files give
-pub record MayReport (told : Option Files) (words : List (List ℕ)) (failed : Option (List ℕ)) (report : Report) : Type 0 where
+-- a report that the command may give: about the call that failed, else one that the told files give
+pub record MayReport (told : Option Files) (words : List (List ℕ)) (failed : Option (Bool × List ℕ)) (report : Report) : Type 0 where
   pub failure : TellsFailed report failed
   pub answer : (files : Files) → told ≡ Some files → UnlessFault report (Answers files words report)
 
@@ -54,10 +55,16 @@ pub record Wanting (old new : Option (List ℕ)) (ended : Status) : Type 0 where
 abbrev pub Ran : Option Files → List (List ℕ) → Option (List ℕ) → Option (List ℕ) → ℕ → ℕ → Status → List DepotCall → Type 0
 Ran told words old new before now ended added = Reported told words old new before now ended added ⊎ Wanting old new ended
 
--- the report that is put, which words and told files give
-pub record PutsAnswer (files : Files) (words : List (List ℕ)) (old new : Option (List ℕ)) (ended : Status) : Type 0 where
+-- how a command ends, and what it stores
+pub record Runs (told after : Option Files) (words : List (List ℕ)) (old new : Option (List ℕ)) (before now : ℕ) (ended : Status) (added : List DepotCall) : Type 0 where
+  pub ran : Ran told words old new before now ended added
+  pub kept : Kept told words added after
+
+-- the report that is put, which words and told files give, and the files after it
+pub record PutsAnswer (files : Files) (words : List (List ℕ)) (old new : Option (List ℕ)) (after : Option Files) (ended : Status) : Type 0 where
   pub report : Report
   pub answer : Answers files words report
+  pub kept : after ≡ files_after (file_of report) (run_trace report) (Some files)
   pub said : ended ≡ status_of report
   pub put : new ≡ after_put old (text_of report)
 
@@ -70,3 +77,13 @@ UnlessFailed status.Refused P = P
 UnlessFailed status.Usage P = P
 UnlessFailed status.Fault P = ⊤
 UnlessFailed status.NoMemory P = ⊤
+
+-- a fact under the statuses that store nothing
+abbrev pub UnlessStores : Status → Type 0 → Type 0
+UnlessStores status.Yes P = P
+UnlessStores status.No P = ⊤
+UnlessStores status.Unknown P = P
+UnlessStores status.Refused P = P
+UnlessStores status.Usage P = P
+UnlessStores status.Fault P = ⊤
+UnlessStores status.NoMemory P = ⊤

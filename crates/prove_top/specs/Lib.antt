@@ -11,6 +11,8 @@ pub mod Reading
 pub mod Verilog
 pub mod Report
 pub mod Answer
+pub mod Asked
+pub mod Store
 pub mod Ends
 pub mod Laws
 pub mod Clauses

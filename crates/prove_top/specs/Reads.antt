@@ -1,5 +1,6 @@
--- The calls of a depot that only reads: the names in their order, none skipped, up to one that isn't whole.
-use Rattle.std.specs.Prelude.{◌≡◌, ℕ, true, false, Option, Some, None, Result, Ok, Err, List, [], ◌∷◌, ◌++◌, ⊤, map}
+-- The calls of a depot: reads of the names in their order, none skipped, up to one that isn't whole, and
+-- then a store.
+use Rattle.std.specs.Prelude.{◌≡◌, ℕ, Bool, true, false, Option, Some, None, Result, Ok, Err, List, [], ◌∷◌, ⊤}
 use Rattle.tool_edge.specs.Calls.{one_call, after_calls}
 use Rattle.tool_edge.specs.declared.depot.DepotCall.{DepotCall}
 use Rattle.tool_edge.specs.declared.depot.DepotAnswer.{DepotAnswer}
@@ -23,17 +24,34 @@ AreReads [] (call ∷ calls) = ⊥
 AreReads (name ∷ names) (call ∷ calls) =
     (call.name ≡ name) × (call.store ≡ false) × GoesOn call.answer (AreReads names calls) (calls ≡ [])
 
--- the name of the call that failed
-abbrev pub failed_name : DepotAnswer → List ℕ → Option (List ℕ) → Option (List ℕ)
-failed_name answered.Failed name more = Some name
-failed_name answered.Whole name more = more
-failed_name answered.Long name more = more
-failed_name answered.Missing name more = more
-failed_name answered.Stored name more = more
+-- the reads of these names, each whole
+abbrev pub whole_reads : List (List ℕ) → List DepotCall
+whole_reads [] = []
+whole_reads (name ∷ names) = record { name = name; store = false; answer = answered.Whole } ∷ whole_reads names
 
-abbrev pub failed_of : List DepotCall → Option (List ℕ)
+-- the same reads, and after a whole read of each name at most one store, of this name
+abbrev pub AreCalls : List (List ℕ) → Option (List ℕ) → List DepotCall → Type 0
+AreCalls names to [] = ⊤
+AreCalls [] to (call ∷ calls) = (to ≡ Some call.name) × (call.store ≡ true) × (calls ≡ [])
+AreCalls (name ∷ names) to (call ∷ calls) =
+    (call.name ≡ name) × (call.store ≡ false) × GoesOn call.answer (AreCalls names to calls) (calls ≡ [])
+
+-- no call is a store
+abbrev pub NoStores : List DepotCall → Type 0
+NoStores [] = ⊤
+NoStores (call ∷ calls) = (call.store ≡ false) × NoStores calls
+
+-- the call that failed: whether it was a store, and its name
+abbrev pub failed_call : DepotAnswer → Bool × List ℕ → Option (Bool × List ℕ) → Option (Bool × List ℕ)
+failed_call answered.Failed call more = Some call
+failed_call answered.Whole call more = more
+failed_call answered.Long call more = more
+failed_call answered.Missing call more = more
+failed_call answered.Stored call more = more
+
+abbrev pub failed_of : List DepotCall → Option (Bool × List ℕ)
 failed_of [] = None
-failed_of (call ∷ calls) = failed_name call.answer call.name (failed_of calls)
+failed_of (call ∷ calls) = failed_call call.answer (call.store, call.name) (failed_of calls)
 
 -- what was added to a told list, told or not: such reads, of which P holds
 pub record ReadsOnly (names : List (List ℕ)) (before after : Option (List DepotCall)) (P : List DepotCall → Type 0) : Type 0 where
@@ -42,12 +60,22 @@ pub record ReadsOnly (names : List (List ℕ)) (before after : Option (List Depo
   pub reads : AreReads names added
   pub ends : P added
 
--- which read failed, if one did
-abbrev pub HaltedBy : {A : Type 0} → Result A Halt → Option (List ℕ) → Type 0
-HaltedBy (Ok files) failed = failed ≡ None
-HaltedBy (Err (halt.Failed name)) failed = failed ≡ Some name
-HaltedBy (Err (halt.Short shortfall)) failed = failed ≡ None
-HaltedBy (Err halt.NoMemory) failed = ⊤
+-- what was added to a told list, told or not: such calls, of which P holds
+pub record Called (names : List (List ℕ)) (to : Option (List ℕ)) (before after : Option (List DepotCall)) (P : List DepotCall → Type 0) : Type 0 where
+  pub added : List DepotCall
+  pub told : after ≡ after_calls before added
+  pub calls : AreCalls names to added
+  pub ends : P added
+
+-- how the reads of these names ended: each whole, or which failed, if one did
+abbrev pub FailedBy : Halt → Option (Bool × List ℕ) → Type 0
+FailedBy (halt.Failed name) failed = failed ≡ Some (false, name)
+FailedBy (halt.Short shortfall) failed = failed ≡ None
+FailedBy halt.NoMemory failed = ⊤
+
+abbrev pub HaltedBy : {A : Type 0} → List (List ℕ) → Result A Halt → List DepotCall → Type 0
+HaltedBy names (Ok files) added = added ≡ whole_reads names
+HaltedBy names (Err why) added = FailedBy why (failed_of added)
 
 -- the one entry of a read of this name
 abbrev pub ShortEntry : List ℕ → Shortfall → List DepotCall → Type 0

@@ -1,5 +1,5 @@
 -- What a command reports: a status and a line (this project's own).
-use Rattle.std.specs.Prelude.{ℕ, List, [], ◌∷◌, ◌++◌, codes}
+use Rattle.std.specs.Prelude.{ℕ, Bool, if◌then◌else◌, Option, Some, None, List, [], ◌∷◌, ◌++◌, codes}
 use Rattle.std.specs.Fmt.{decimal}
 use Rattle.trace_replay.specs.declared.fault.TraceCode.{TraceCode}
 use Rattle.trace_replay.specs.declared.fault.TraceCode.TheVariants as code
@@ -27,11 +27,11 @@ abbrev pub status_of : Report → Status
 status_of report.Usage = status.Usage
 status_of (report.Refused why file) = status.Refused
 status_of (report.WrongTrace why line file) = status.Refused
-status_of (report.Refuted edge what trace) = status.No
+status_of (report.Refuted edge what trace file) = status.No
 status_of (report.Agrees edges) = status.Yes
 status_of (report.Differs edge what) = status.No
 status_of report.Simulated = status.Unknown
-status_of (report.FaultRead file) = status.Fault
+status_of (report.Fault store file) = status.Fault
 
 -- a refusal of a file: its code, the file at 0:0, and its name
 abbrev pub refusal_head : Refusal → List ℕ
@@ -83,30 +83,59 @@ code_tail code.TraceSize = codes ":1 TraceSize"
 abbrev pub wrong_line : TraceCode → ℕ → List ℕ → List ℕ
 wrong_line why line file = code_head why ++ (file ++ codes ":" ++ decimal line) ++ code_tail why
 
+-- the line of a call of the depot that failed, before the file's name
+abbrev pub fault_head : Bool → List ℕ
+fault_head store = if store then codes "fault store " else codes "fault read "
+
 -- the line of a report, and its text
 abbrev pub line_of : Report → List ℕ
 line_of report.Usage = codes "usage: rdlprove prove, check, replay, map, sample or equal"
 line_of (report.Refused why file) = refusal_head why ++ file ++ refusal_tail why
 line_of (report.WrongTrace why line file) = wrong_line why line file
-line_of (report.Refuted edge what trace) = refuted_line edge what
+line_of (report.Refuted edge what trace file) = refuted_line edge what
 line_of (report.Agrees edges) = agrees_line edges
 line_of (report.Differs edge what) = differs_line edge what
 line_of report.Simulated = codes "unknown simulated"
-line_of (report.FaultRead file) = codes "fault read " ++ file ++ []
+line_of (report.Fault store file) = fault_head store ++ file ++ []
 
 abbrev pub heading_of : Report → List ℕ
 heading_of said = line_of said ++ 10 ∷ []
 
--- the trace text that follows the line, where there is one
+-- the trace text that follows the line, where there is one and it has no file of its own
+abbrev pub following : Option (List ℕ) → List ℕ → List ℕ
+following None trace = trace
+following (Some file) trace = []
+
 abbrev pub trace_of : Report → List ℕ
 trace_of report.Usage = []
 trace_of (report.Refused why file) = []
 trace_of (report.WrongTrace why line file) = []
-trace_of (report.Refuted edge what trace) = trace
+trace_of (report.Refuted edge what trace file) = following file trace
 trace_of (report.Agrees edges) = []
 trace_of (report.Differs edge what) = []
 trace_of report.Simulated = []
-trace_of (report.FaultRead file) = []
+trace_of (report.Fault store file) = []
+
+-- the file that a report has for its trace, and that trace
+abbrev pub file_of : Report → Option (List ℕ)
+file_of report.Usage = None
+file_of (report.Refused why file) = None
+file_of (report.WrongTrace why line file) = None
+file_of (report.Refuted edge what trace file) = file
+file_of (report.Agrees edges) = None
+file_of (report.Differs edge what) = None
+file_of report.Simulated = None
+file_of (report.Fault store file) = None
+
+abbrev pub run_trace : Report → List ℕ
+run_trace report.Usage = []
+run_trace (report.Refused why file) = []
+run_trace (report.WrongTrace why line file) = []
+run_trace (report.Refuted edge what trace file) = trace
+run_trace (report.Agrees edges) = []
+run_trace (report.Differs edge what) = []
+run_trace report.Simulated = []
+run_trace (report.Fault store file) = []
 
 unfoldable pub text_of : Report → List ℕ
 text_of said = heading_of said ++ trace_of said

@@ -1,5 +1,5 @@
 -- The word grammar (this project's own).
-use Rattle.std.specs.Prelude.{ℕ, ◌-◌, ◌^◌, ◌==◌, nat_le, nat_lt, nat_eq, Bool, true, false, not, ◌&&◌, if◌then◌else◌, Option, Some, None, is_some, is_none, unwrap_or, List, [], ◌∷◌, length, take, drop, codes}
+use Rattle.std.specs.Prelude.{ℕ, ◌-◌, ◌^◌, ◌==◌, nat_le, nat_lt, nat_eq, Bool, not, ◌&&◌, if◌then◌else◌, Option, Some, None, is_some, is_none, unwrap_or, List, [], ◌∷◌, length, take, drop, codes}
 use Rattle.std.specs.List.{list_all, starts_with, position}
 use Rattle.std.specs.Option.{option_map, option_and_then}
 use Rattle.std.specs.Str.{bytes_eq}
@@ -124,19 +124,24 @@ command_of (verb ∷ rest) =
     else if bytes_eq verb (codes "sample") then sample_of rest
     else None
 
--- what is answered so far: `prove` with no option but a seed, and `replay`, each with one Verilog file
+-- what is answered so far: `prove` with no option but a seed and a file for the trace, and `replay`, each
+-- with one Verilog file
 abbrev pub is_plain : Options → Bool
-is_plain options = is_none options.bound && is_none options.budget && is_none options.cert && is_none options.trace
+is_plain options = is_none options.bound && is_none options.budget && is_none options.cert
 
 abbrev pub task_of : Command → Option Task
 task_of (Prove names options) =
     if names.others == 0 && is_plain options
-    then Some (record { rdl = names.rdl; ports = names.ports; verilog = names.verilog; work = work.Sample (unwrap_or options.seed 1) }) else None
+    then Some (record { rdl = names.rdl; ports = names.ports; verilog = names.verilog; work = work.Sample (unwrap_or options.seed 1); trace_file = options.trace }) else None
 task_of (Replay trace names) =
-    if names.others == 0 then Some (record { rdl = names.rdl; ports = names.ports; verilog = names.verilog; work = work.Replay trace }) else None
+    if names.others == 0 then Some (record { rdl = names.rdl; ports = names.ports; verilog = names.verilog; work = work.Replay trace; trace_file = None }) else None
 task_of (Check cert names) = None
 task_of (Map rdl) = None
 task_of (Sample number) = None
 
 abbrev pub task_asked : List (List ℕ) → Option Task
 task_asked words = option_and_then task_of (command_of words)
+
+-- the file that the words name for the trace of a difference
+abbrev pub trace_file : List (List ℕ) → Option (List ℕ)
+trace_file words = option_and_then (λ task. task.trace_file) (task_asked words)

@@ -3,7 +3,7 @@
 ghost use Rattle.std.specs.Prelude.{◌≡◌, ◌≤◌, [], ◌∷◌, length, IfOk, IfErr, IfSome};
 ghost use Rattle.tool_edge.specs.Causes.{Rose};
 ghost use Rattle.prove_top.specs.Gather.{AnswersAs, gathered, names_of, contents, IfFailed, fetched_one, AnswersOne};
-ghost use Rattle.prove_top.specs.Reads.{ReadsOnly, HaltedBy, failed_of, HasEntry};
+ghost use Rattle.prove_top.specs.Reads.{ReadsOnly, HaltedBy, HasEntry};
 ghost use Rattle.prove_top.specs.declared.gather.Halt.TheVariants.{NoMemory};
 
 use bit_base::text::Text;
@@ -87,7 +87,7 @@ pub(crate) fn fetch_all<D: Depot>(
     ensures files { D.files depot.new ≡ D.files depot.old }
     ensures answer { IfSome (D.files depot.old) (λ files. AnswersAs (gathered files wanted.now) result) }
     ensures length { IfOk result (λ files. length files.items ≡ length wanted.now) }
-    ensures calls { ReadsOnly (names_of wanted.now) (D.calls depot.old) (D.calls depot.new) (λ added. HaltedBy result (failed_of added)) }
+    ensures calls { ReadsOnly (names_of wanted.now) (D.calls depot.old) (D.calls depot.new) (HaltedBy (names_of wanted.now) result) }
     ensures count { D.faults depot.old ≤ D.faults depot.new }
     ensures rose { IfErr result (λ halt. IfFailed halt (Rose (D.faults depot.old) (D.faults depot.new))) }
 {

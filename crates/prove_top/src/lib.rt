@@ -11,6 +11,7 @@ mod numbers;
 mod plan;
 mod report;
 mod sampled;
+mod store;
 mod texts;
 mod top;
 mod verilog;

@@ -1,14 +1,14 @@
 //! What a command comes to, before it is reported.
 
-ghost use Rattle.std.specs.Prelude.{◌≡◌, ◌+◌, ◌<◌, ◌≤◌, ◌↔◌, None, length, take, IfOk, IfSome};
+ghost use Rattle.std.specs.Prelude.{◌≡◌, ◌+◌, ◌<◌, ◌≤◌, ◌↔◌, ℕ, List, Option, None, length, take, IfOk, IfSome};
 ghost use Rattle.prove_top.specs.Sampled.{cut_trace};
 ghost use Rattle.tool_edge.specs.Causes.{Rose};
-ghost use Rattle.prove_top.specs.Words.{command_of};
+ghost use Rattle.prove_top.specs.Words.{command_of, trace_file};
 ghost use Rattle.prove_top.specs.Gather.{contents, names_of};
 ghost use Rattle.trace_replay.specs.LegalTrace.{IsLegalTrace};
 ghost use Rattle.trace_replay.specs.Trace.{lists_of, trace_difference};
-ghost use Rattle.prove_top.specs.Reads.{ReadsOnly, failed_of};
-ghost use Rattle.prove_top.specs.Answer.{block_wanted, wanted_of, short_report, trace_name, name_of, block_of, names_asked, sample_report, wrong_report, trace_report, Replays, ReplayAnswer, TextsAnswer, TaskAnswer, Answers, UnlessFault, IfFault, TellsFailed, IsUsage, IsAnswer, run_report};
+ghost use Rattle.prove_top.specs.Reads.{ReadsOnly};
+ghost use Rattle.prove_top.specs.Answer.{block_wanted, wanted_of, short_report, trace_name, name_of, block_of, names_asked, sample_report, wrong_report, trace_report, Replays, ReplayAnswer, TextsAnswer, TaskAnswer, Answers, UnlessFault, IfFault, ComesAfter, IsUsage, IsAnswer, run_report};
 
 use crate::description::reset_of;
 use crate::gather::{Halt, Kind, Shortfall, Wanted, fetch_all};
@@ -156,17 +156,32 @@ fn cut_trace(alloc: Global, block: &Block, run: &Run, edge: usize) -> Result<Tex
     Ok(Text::from(text))
 }
 
-/// The report of a block's sampled run.
+/// A copy of a name, where there is one.
+fn copy_of(alloc: Global, name: &Option<Text>) -> Result<Option<Text>, AllocError>
+    ensures { IfOk result (λ copy. copy ≡ name.now) }
+{
+    match name {
+        Some(name) => Ok(Some(name.copy(alloc)?)),
+        None => Ok(None),
+    }
+}
+
+/// The report of a block's sampled run; its trace is for this file.
 #[tactic(auto, unfolding(crate::specs::Answer::run_report, crate::specs::Sampled::sampled_trace))]
-fn run_report(alloc: Global, block: &Block, seed: u64) -> Result<Report, AllocError>
-    ensures report { IfOk result (λ report. report ≡ run_report block.now seed) }
-    ensures kind { IfOk result IsAnswer }
+fn run_report(
+    alloc: Global,
+    block: &Block,
+    seed: u64,
+    file: &Option<Text>,
+) -> Result<Report, AllocError>
+    ensures report { IfOk result (λ report. report ≡ run_report block.now seed file.now) }
+    ensures kind { IfOk result (IsAnswer file.now) }
 {
     let run = sampled_run(alloc, block, seed)?;
     match first_difference(alloc, block, run.register, &run.wires)? {
         Some((edge, difference)) => {
             let trace = cut_trace(alloc, block, &run, edge)?;
-            Ok(Report::Refuted(edge, difference, trace))
+            Ok(Report::Refuted(edge, difference, trace, copy_of(alloc, file)?))
         }
         None => Ok(Report::Simulated),
     }
@@ -182,10 +197,10 @@ fn sample_report(
     verilog: &[u8],
 ) -> Result<Report, AllocError>
     ensures report { IfOk result (λ report. report ≡ sample_report task.now seed (block_of rdl.now ports.now verilog.now)) }
-    ensures kind { IfOk result IsAnswer }
+    ensures kind { IfOk result (IsAnswer task.now.trace_file) }
 {
     match block_of(alloc, rdl, ports, verilog)? {
-        Ok(block) => run_report(alloc, &block, seed),
+        Ok(block) => run_report(alloc, &block, seed, &task.trace_file),
         Err(kind) => Ok(Report::Refused(Refusal::NotYet, name_of(task, kind).copy(alloc)?)),
     }
 }
@@ -198,7 +213,7 @@ fn wrong_report(
     line: u32,
 ) -> Result<Report, AllocError>
     ensures report { IfOk result (λ report. report ≡ wrong_report name.now code line) }
-    ensures kind { IfOk result IsAnswer }
+    ensures kind { (file : Option (List ℕ)) → IfOk result (IsAnswer file) }
 {
     let name = name.copy(alloc)?;
     match code {
@@ -211,7 +226,7 @@ fn wrong_report(
 fn trace_report(alloc: Global, block: &Block, trace: &Trace) -> Result<Report, AllocError>
     requires { IsLegalTrace block.now trace.now.start.items (lists_of trace.now.edges.items) }
     ensures report { IfOk result (λ report. report ≡ trace_report (length trace.now.edges.items) (trace_difference block.now trace.now.start.items (lists_of trace.now.edges.items))) }
-    ensures kind { IfOk result IsAnswer }
+    ensures kind { (file : Option (List ℕ)) → IfOk result (IsAnswer file) }
 {
     let found = replay(alloc, block, trace)?;
     match found {
@@ -228,7 +243,7 @@ fn replay_report(
     text: &[u8],
 ) -> Result<Report, AllocError>
     ensures report { IfOk result (λ report. Replays block.now name.now text.now report) }
-    ensures kind { IfOk result IsAnswer }
+    ensures kind { (file : Option (List ℕ)) → IfOk result (IsAnswer file) }
 {
     match read_trace(alloc, text, block) {
         Ok(trace) => trace_report(alloc, block, &trace),
@@ -248,7 +263,7 @@ fn replay_answer(
     verilog: &[u8],
 ) -> Result<Report, AllocError>
     ensures report { IfOk result (λ report. ReplayAnswer task.now name.now text.now (block_of rdl.now ports.now verilog.now) report) }
-    ensures kind { IfOk result IsAnswer }
+    ensures kind { IfOk result (IsAnswer task.now.trace_file) }
 {
     let block = block_of(alloc, rdl, ports, verilog)?;
     match block {
@@ -261,7 +276,7 @@ fn replay_answer(
 fn texts_report(alloc: Global, task: &Task, files: &[Vec<u8>]) -> Result<Report, AllocError>
     requires { length files.now ≡ length (wanted_of task.now) }
     ensures report { IfOk result (λ report. TextsAnswer task.now (contents files.now) report) }
-    ensures kind { IfOk result IsAnswer }
+    ensures kind { IfOk result (IsAnswer task.now.trace_file) }
 {
     match &task.work {
         Work::Sample(seed) => sample_report(alloc, task, *seed, &files[0], &files[1], &files[2]),
@@ -276,7 +291,7 @@ fn work_report<D: Depot>(alloc: Global, task: &Task, depot: &mut D) -> Result<Re
     ensures files { D.files depot.new ≡ D.files depot.old }
     ensures answer { IfSome (D.files depot.old) (λ files. IfOk result (λ report. UnlessFault report (TaskAnswer files task.now report))) }
     ensures usage { IfOk result (λ report. IsUsage report → ⊥) }
-    ensures calls { ReadsOnly (names_of (wanted_of task.now)) (D.calls depot.old) (D.calls depot.new) (λ added. IfOk result (λ report. TellsFailed report (failed_of added))) }
+    ensures calls { ReadsOnly (names_of (wanted_of task.now)) (D.calls depot.old) (D.calls depot.new) (λ added. IfOk result (λ report. ComesAfter (names_of (wanted_of task.now)) task.now.trace_file report added)) }
     ensures count { D.faults depot.old ≤ D.faults depot.new }
     ensures rose { IfOk result (λ report. IfFault report (Rose (D.faults depot.old) (D.faults depot.new))) }
 {
@@ -284,7 +299,10 @@ fn work_report<D: Depot>(alloc: Global, task: &Task, depot: &mut D) -> Result<Re
     match fetch_all(alloc, depot, &wanted) {
         Ok(files) => texts_report(alloc, task, &files),
         Err(Halt::Short(short)) => Ok(short_report(short)),
-        Err(Halt::Failed(name)) => Ok(Report::FaultRead(name)),
+        Err(Halt::Failed(name)) => Ok(Report::Fault {
+            store: false,
+            file: name,
+        }),
         Err(Halt::NoMemory) => Err(AllocError),
     }
 }
@@ -298,7 +316,7 @@ pub(crate) fn plan<D: Depot>(
     ensures files { D.files depot.new ≡ D.files depot.old }
     ensures answer { IfSome (D.files depot.old) (λ files. IfOk result (λ report. UnlessFault report (Answers files words.now report))) }
     ensures usage { IfOk result (λ report. IsUsage report ↔ (command_of words.now ≡ None)) }
-    ensures calls { ReadsOnly (names_asked words.now) (D.calls depot.old) (D.calls depot.new) (λ added. IfOk result (λ report. TellsFailed report (failed_of added))) }
+    ensures calls { ReadsOnly (names_asked words.now) (D.calls depot.old) (D.calls depot.new) (λ added. IfOk result (λ report. ComesAfter (names_asked words.now) (trace_file words.now) report added)) }
     ensures count { D.faults depot.old ≤ D.faults depot.new }
     ensures rose { IfOk result (λ report. IfFault report (Rose (D.faults depot.old) (D.faults depot.new))) }
 {

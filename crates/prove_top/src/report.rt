@@ -1,7 +1,8 @@
 //! What a command reports: a status, and a line.
 
+ghost use Rattle.std.specs.Option.{option_copied};
 ghost use Rattle.std.specs.Prelude.{◌≡◌, ◌++◌, IfOk};
-ghost use Rattle.prove_top.specs.Report.{status_number, status_of, heading_of, trace_of, line_of, refusal_head, refusal_tail, difference_text, refuted_line, agrees_line, differs_line, wrong_line, code_head, code_tail};
+ghost use Rattle.prove_top.specs.Report.{status_number, status_of, heading_of, trace_of, file_of, run_trace, line_of, fault_head, refusal_head, refusal_tail, difference_text, refuted_line, agrees_line, differs_line, wrong_line, code_head, code_tail};
 
 use bit_base::text::Text;
 use std::alloc::{AllocError, Global};
@@ -50,18 +51,19 @@ pub(crate) enum Refusal {
     NotYet,
 }
 
-/// What a command reports; `Refuted` has the edge, the difference and the text of the trace, `Agrees`
-/// the number of edges of a trace, and `WrongTrace` why, where and which trace is refused.
+/// What a command reports; `Refuted` has the edge, the difference, the text of the trace and the name of
+/// the file for it, `Agrees` the number of edges of a trace, `WrongTrace` why, where and which trace is
+/// refused, and `Fault` the call of the depot that failed.
 #[derive(Drop)]
 pub(crate) enum Report {
     Usage,
     Refused(Refusal, Text),
     WrongTrace(TraceCode, u32, Text),
-    Refuted(usize, Difference, Text),
+    Refuted(usize, Difference, Text, Option<Text>),
     Simulated,
     Agrees(usize),
     Differs(usize, Difference),
-    FaultRead(Text),
+    Fault { store: bool, file: Text },
 }
 
 impl Report {
@@ -72,10 +74,10 @@ impl Report {
         match self {
             Report::Usage => Status::Usage,
             Report::Refused(_, _) | Report::WrongTrace(_, _, _) => Status::Refused,
-            Report::Refuted(_, _, _) | Report::Differs(_, _) => Status::No,
+            Report::Refuted(_, _, _, _) | Report::Differs(_, _) => Status::No,
             Report::Agrees(_) => Status::Yes,
             Report::Simulated => Status::Unknown,
-            Report::FaultRead(_) => Status::Fault,
+            Report::Fault { store: _, file: _ } => Status::Fault,
         }
     }
 
@@ -88,12 +90,32 @@ impl Report {
         Ok(text)
     }
 
-    /// The trace text that follows, empty where there is none.
+    /// The trace text that follows, empty where there is none or where it has a file of its own.
     pub fn trace(&self) -> &[u8]
         ensures { result.now ≡ trace_of self.now }
     {
         match self {
-            Report::Refuted(_, _, trace) => trace.as_bytes(),
+            Report::Refuted(_, _, trace, None) => trace.as_bytes(),
+            _ => b"".as_slice(),
+        }
+    }
+
+    /// The file that it has for its trace.
+    pub fn file(&self) -> Option<&Text>
+        ensures { option_copied result ≡ file_of self.now }
+    {
+        match self {
+            Report::Refuted(_, _, _, file) => file.as_ref(),
+            _ => None,
+        }
+    }
+
+    /// The trace, empty where there is none.
+    pub fn run_trace(&self) -> &[u8]
+        ensures { result.now ≡ run_trace self.now }
+    {
+        match self {
+            Report::Refuted(_, _, trace, _) => trace.as_bytes(),
             _ => b"".as_slice(),
         }
     }
@@ -118,13 +140,13 @@ impl Report {
                 *line,
                 file.as_bytes(),
             ),
-            Report::Refuted(edge, difference, _) => refuted_line(alloc, *edge, *difference),
+            Report::Refuted(edge, difference, _, _) => refuted_line(alloc, *edge, *difference),
             Report::Agrees(edges) => agrees_line(alloc, *edges),
             Report::Differs(edge, difference) => differs_line(alloc, *edge, *difference),
             Report::Simulated => b"unknown simulated".as_slice().to_vec(alloc),
-            Report::FaultRead(file) => joined(
+            Report::Fault { store, file } => joined(
                 alloc,
-                b"fault read ".as_slice(),
+                fault_head(*store),
                 file.as_bytes(),
                 b"".as_slice(),
             ),
@@ -140,6 +162,17 @@ fn joined(alloc: Global, first: &[u8], second: &[u8], third: &[u8]) -> Result<Ve
     text.extend_from_slice(second)?;
     text.extend_from_slice(third)?;
     Ok(text)
+}
+
+/// The line of a failed call before the file's name.
+fn fault_head(store: bool) -> &'static [u8]
+    ensures { result.now ≡ fault_head store }
+{
+    if store {
+        b"fault store ".as_slice()
+    } else {
+        b"fault read ".as_slice()
+    }
 }
 
 /// The line of a refusal before and after the file's name.

@@ -418,6 +418,11 @@ fn traces_are_replayed(rt: HostRuntime) -> Result<(), Fail> {
             Status::Refused,
             "refused 502 t.trace:2:1 TraceName\n",
         ),
+        (
+            "rdltrace 1\nstart v 00000000\nedge rst_n=1 psel=0 penable=0 pwrite=0 paddr=00 pwdata=00000000\nend\n",
+            Status::Refused,
+            "refused 503 t.trace:3:1 TraceIllegal\n",
+        ),
     ] {
         let mut depot = depot(alloc, READ_DATA.as_bytes(), NEXT.as_bytes())?;
         depot.hold(
@@ -448,6 +453,81 @@ fn traces_are_replayed(rt: HostRuntime) -> Result<(), Fail> {
         text[refuted.len().min(text.len())..].to_vec(alloc)?,
     )?;
     answers(&rt, alloc, line, &mut depot, Status::No, differs)?;
+    Ok(())
+}
+
+/// A trace with this many edges without a transfer after the reset edge.
+fn idle_trace(alloc: Global, edges: u8) -> Result<Vec<u8>, AllocError> {
+    let mut text =
+        b"rdltrace 1\nstart v 00000000\nedge rst_n=0 psel=0 penable=0 pwrite=0 paddr=00 pwdata=00000000\n"
+            .as_slice()
+            .to_vec(alloc)?;
+    for _edge in 0..edges {
+        text.extend_from_slice(
+            b"edge rst_n=1 psel=0 penable=0 pwrite=0 paddr=00 pwdata=00000000\n".as_slice(),
+        )?;
+    }
+    text.extend_from_slice(b"end\n".as_slice())?;
+    Ok(text)
+}
+
+/// Traces of 64 and of 65 edges, and one that is a byte too long.
+#[test]
+fn long_traces_are_told(rt: HostRuntime) -> Result<(), Fail> {
+    let alloc = rt.alloc();
+    let mut long = Vec::new(alloc);
+    long.resize(16_777_217, b'a')?;
+    for (trace, status, text) in [
+        (idle_trace(alloc, 63)?, Status::Yes, "agrees edges=64\n"),
+        (
+            idle_trace(alloc, 64)?,
+            Status::Refused,
+            "refused 501 t.trace:67:1 TraceLine\n",
+        ),
+        (long, Status::Refused, "refused 504 t.trace:0:0 TraceSize\n"),
+    ] {
+        let mut depot = depot(alloc, READ_DATA.as_bytes(), NEXT.as_bytes())?;
+        depot.hold(text_of(alloc, b"t.trace".as_slice())?, trace)?;
+        let line = b"replay t.trace a.rdl a.ports f.v".as_slice();
+        answers(&rt, alloc, line, &mut depot, status, text.as_bytes())?;
+    }
+    Ok(())
+}
+
+/// With `--trace` the trace of a wrong block is stored and the line stands alone, the stored file
+/// replays, and a failed store leaves none; after a failed put the file is there; a right block stores
+/// nothing.
+#[test]
+fn traces_are_stored(rt: HostRuntime) -> Result<(), Fail> {
+    let alloc = rt.alloc();
+    let line = b"prove a.rdl a.ports f.v --trace t.trace --seed 3".as_slice();
+    let name = text_of(alloc, b"t.trace".as_slice())?;
+    let wrong = format!(in alloc; "({NEXT} | (~{{8{{rst_n}}}} & 8'h01))")?;
+    let refuted = b"refuted edge=1 output c.v\n".as_slice();
+    let mut stored = depot(alloc, READ_DATA.as_bytes(), wrong.as_bytes())?;
+    let text = answers(&rt, alloc, line, &mut stored, Status::No, refuted)?;
+    assert_eq!(rt; text.len(), refuted.len());
+    assert_eq!(rt; stored.calls().len(), 4);
+    let replay = b"replay t.trace a.rdl a.ports f.v".as_slice();
+    let differs = b"differs edge=1 output c.v\n".as_slice();
+    answers(&rt, alloc, replay, &mut stored, Status::No, differs)?;
+    let mut failing = depot(alloc, READ_DATA.as_bytes(), wrong.as_bytes())?;
+    failing.fail_at(4)?;
+    let fault = b"fault store t.trace\n".as_slice();
+    answers(&rt, alloc, line, &mut failing, Status::Fault, fault)?;
+    assert!(rt; failing.bytes_of(&name).is_none());
+    let mut unsaid = depot(alloc, READ_DATA.as_bytes(), wrong.as_bytes())?;
+    let mut out = MemorySink::new(alloc);
+    out.fail_at(1)?;
+    let words = words(alloc, line)?;
+    let ended = run_tool(alloc, &words, &mut unsaid, &mut out);
+    assert_eq!(rt; ended.status, Status::Fault);
+    assert!(rt; out.bytes().is_empty());
+    assert!(rt; unsaid.bytes_of(&name) == stored.bytes_of(&name));
+    let mut right = depot(alloc, READ_DATA.as_bytes(), NEXT.as_bytes())?;
+    let simulated = b"unknown simulated\n".as_slice();
+    answers(&rt, alloc, line, &mut right, Status::Unknown, simulated)?;
+    assert!(rt; right.bytes_of(&name).is_none());
     Ok(())
 }
 

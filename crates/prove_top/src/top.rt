@@ -1,15 +1,17 @@
 //! The top call.
 
-ghost use Rattle.std.specs.Prelude.{◌≡◌, ◌≤◌, ◌↔◌, ◌⊎◌, ℕ, List, Some, None, Ok, Err, IfSome, codes};
+ghost use Rattle.std.specs.Prelude.{◌≡◌, ◌≤◌, ◌↔◌, ◌⊎◌, ℕ, Bool, List, Some, None, Ok, Err, IfOk, IfSome, IsSome, codes};
 ghost use Rattle.tool_edge.specs.Causes.{Rose};
 ghost use Rattle.tool_edge.specs.Written.{after_put, AppendsPart};
-ghost use Rattle.prove_top.specs.Answer.{name_of, names_asked, short_report, wanted_of};
-ghost use Rattle.prove_top.specs.Clauses.{Added, IsFaultOrMemory, NoStores, PutsFault, PutsPart, PutsPartThenMemory, RefutedReplays, ReplayAgrees, ReplayDiffers, SampledAgrees, SampledDiffers, WholeButTheLast, made_of};
-ghost use Rattle.prove_top.specs.Ends.{Ends, EndsPut, PutsAnswer, Ran, UnlessFailed};
-ghost use Rattle.prove_top.specs.Reads.{AreReads, ReadsOnly, failed_of};
+ghost use Rattle.prove_top.specs.Answer.{IfFault, IsUsage, TellsFailed, UnlessFault, name_of, names_asked, short_report, wanted_of};
+ghost use Rattle.prove_top.specs.Clauses.{Added, FilesEnd, IsFaultOrMemory, OthersKept, PutsFault, PutsPart, PutsPartThenMemory, RefutedReplays, RefutedWritten, ReplayAgrees, ReplayDiffers, SampledAgrees, SampledDiffers, StoreAfterReads, WholeButTheLast};
+ghost use Rattle.prove_top.specs.Asked.{made_of};
+ghost use Rattle.prove_top.specs.Ends.{Ends, EndsPut, PutsAnswer, Runs, UnlessFailed, UnlessStores};
+ghost use Rattle.prove_top.specs.Reads.{AreCalls, Called, failed_of};
+ghost use Rattle.prove_top.specs.Store.{Kept, Settles};
 ghost use Rattle.prove_top.specs.Gather.{gathered};
 ghost use Rattle.prove_top.specs.Report.{status_of, text_of, trace_of};
-ghost use Rattle.prove_top.specs.Words.{command_of, task_asked, task_of};
+ghost use Rattle.prove_top.specs.Words.{command_of, task_asked, task_of, trace_file};
 ghost use Rattle.prove_top.specs.declared.gather.Kind.{Kind};
 ghost use Rattle.prove_top.specs.declared.gather.Shortfall.{Shortfall};
 ghost use Rattle.prove_top.specs.declared.words.Command.{Command};
@@ -17,8 +19,9 @@ ghost use Rattle.prove_top.specs.declared.words.Task.{Task};
 
 use crate::plan::plan;
 use crate::report::{MEMORY_LINE, Refusal, Report, Status};
+use crate::store::store_trace;
 use bit_base::text::Text;
-use std::alloc::Global;
+use std::alloc::{AllocError, Global};
 use tool_edge::depot::Depot;
 use tool_edge::sink::{Sink, SinkFault};
 
@@ -77,23 +80,35 @@ fn want_memory<S: Sink>(alloc: Global, out: &mut S) -> Status
     Status::NoMemory
 }
 
+/// What a command comes to: its report, after the store of its trace.
+fn decide<D: Depot>(alloc: Global, words: &[Text], depot: &mut D) -> Result<Report, AllocError>
+    ensures answer { IfSome (D.files depot.old) (λ files. IfOk result (λ report. UnlessFault report (Settles files words.now report (D.files depot.new)))) }
+    ensures usage { IfOk result (λ report. IsUsage report ↔ (command_of words.now ≡ None)) }
+    ensures calls { Called (names_asked words.now) (trace_file words.now) (D.calls depot.old) (D.calls depot.new) (λ added. IfOk result (λ report. TellsFailed report (failed_of added)) × Kept (D.files depot.old) words.now added (D.files depot.new)) }
+    ensures count { D.faults depot.old ≤ D.faults depot.new }
+    ensures rose { IfOk result (λ report. IfFault report (Rose (D.faults depot.old) (D.faults depot.new))) }
+{
+    let report = plan(alloc, words, depot)?;
+    store_trace(alloc, report, depot)
+}
+
 /// The top call, with what its end says of the report that was due.
 fn run<D: Depot, S: Sink>(alloc: Global, words: &[Text], depot: &mut D, out: &mut S) -> Status
-    ensures answer { IfSome (D.files depot.old) (λ files. UnlessFailed result (PutsAnswer files words.now (S.written out.old) (S.written out.new) result)) }
+    ensures answer { IfSome (D.files depot.old) (λ files. UnlessFailed result (PutsAnswer files words.now (S.written out.old) (S.written out.new) (D.files depot.new) result)) }
     ensures usage { UnlessFailed result ((result ≡ Status.Usage) ↔ (command_of words.now ≡ None)) }
     ensures fault { result ≡ Status.Fault → Rose (D.faults depot.old) (D.faults depot.new) ⊎ Rose (S.faults out.old) (S.faults out.new) }
-    ensures reads { ReadsOnly (names_asked words.now) (D.calls depot.old) (D.calls depot.new) (Ran (D.files depot.old) words.now (S.written out.old) (S.written out.new) (S.faults out.old) (S.faults out.new) result) }
-    ensures files { D.files depot.new ≡ D.files depot.old }
+    ensures calls { Called (names_asked words.now) (trace_file words.now) (D.calls depot.old) (D.calls depot.new) (Runs (D.files depot.old) (D.files depot.new) words.now (S.written out.old) (S.written out.new) (S.faults out.old) (S.faults out.new) result) }
     ensures depot_count { D.faults depot.old ≤ D.faults depot.new }
     ensures sink_count { S.faults out.old ≤ S.faults out.new }
 {
-    match plan(alloc, words, depot) {
+    match decide(alloc, words, depot) {
         Ok(report) => put_report(alloc, &report, out),
         Err(_) => want_memory(alloc, out),
     }
 }
 
-/// Reads the words, fetches the files that they name from the depot, decides, and puts the report.
+/// Reads the words, fetches the files that they name from the depot, decides, stores the trace of a
+/// difference where `--trace` names a file for it, and puts the report.
 pub fn run_tool<D: Depot, S: Sink>(
     alloc: Global,
     words: &[Text],
@@ -101,25 +116,33 @@ pub fn run_tool<D: Depot, S: Sink>(
     out: &mut S,
 ) -> Ended
     // The added calls are reads of the names of the words in their order, each once, none skipped, none
-    // after one that isn't whole; there is no store, and no file changes.
-    ensures reads_in_order { Added (D.calls depot.old) (D.calls depot.new) (AreReads (names_asked words.now)) }
+    // after one that isn't whole, and after whole reads of all of them at most one store, of the name of
+    // `--trace`.
+    ensures reads_in_order { Added (D.calls depot.old) (D.calls depot.new) (AreCalls (names_asked words.now) (trace_file words.now)) }
     ensures reads_stop { Added (D.calls depot.old) (D.calls depot.new) WholeButTheLast }
-    ensures store_after_reads { Added (D.calls depot.old) (D.calls depot.new) NoStores }
-    ensures files_kept { D.files depot.new ≡ D.files depot.old }
+    ensures store_after_reads { Added (D.calls depot.old) (D.calls depot.new) (StoreAfterReads (names_asked words.now)) }
+
+    // What is stored is the trace of the sampled run's difference, in the file of `--trace`, and no other
+    // file changes; under status 0, 2, 3 and 4 none does.
+    ensures store_is_due { Added (D.calls depot.old) (D.calls depot.new) (λ added. Kept (D.files depot.old) words.now added (D.files depot.new)) }
+    ensures files_kept { UnlessStores result.status (D.files depot.new ≡ D.files depot.old) }
+    ensures other_files_kept { OthersKept (trace_file words.now) (D.files depot.old) (D.files depot.new) }
 
     // Where the last added call failed.
-    ensures last_failed_is_fault { Added (D.calls depot.old) (D.calls depot.new) (λ added. (name : List ℕ) → failed_of added ≡ Some name → IsFaultOrMemory result.status) }
-    ensures fault_report { Added (D.calls depot.old) (D.calls depot.new) (λ added. (name : List ℕ) → failed_of added ≡ Some name → result.status ≡ Status.Fault → PutsFault name (S.written out.old) (S.written out.new) (S.faults out.old) (S.faults out.new)) }
+    ensures last_failed_is_fault { Added (D.calls depot.old) (D.calls depot.new) (λ added. IsSome (failed_of added) → IsFaultOrMemory result.status) }
+    ensures fault_report { Added (D.calls depot.old) (D.calls depot.new) (λ added. (store : Bool) (name : List ℕ) → failed_of added ≡ Some (store, name) → result.status ≡ Status.Fault → PutsFault store name (S.written out.old) (S.written out.new) (S.faults out.old) (S.faults out.new)) }
     ensures fault_without_failed_call { Added (D.calls depot.old) (D.calls depot.new) (λ added. failed_of added ≡ None → result.status ≡ Status.Fault → Rose (S.faults out.old) (S.faults out.new)) }
 
     // Status 5 has a cause, and under 5 and 6 a part of a report that the command may give is put.
     ensures fault_cause { result.status ≡ Status.Fault → Rose (D.faults depot.old) (D.faults depot.new) ⊎ Rose (S.faults out.old) (S.faults out.new) }
     ensures report_prefix { Added (D.calls depot.old) (D.calls depot.new) (λ added. result.status ≡ Status.Fault → PutsPart (D.files depot.old) words.now (failed_of added) (S.written out.old) (S.written out.new)) }
+    ensures fault_file { IfSome (D.files depot.old) (λ files. Added (D.calls depot.old) (D.calls depot.new) (λ added. result.status ≡ Status.Fault → FilesEnd files words.now (failed_of added) (D.files depot.new))) }
+    ensures no_memory_file { IfSome (D.files depot.old) (λ files. Added (D.calls depot.old) (D.calls depot.new) (λ added. result.status ≡ Status.NoMemory → FilesEnd files words.now (failed_of added) (D.files depot.new))) }
     ensures no_memory_bytes { Added (D.calls depot.old) (D.calls depot.new) (λ added. result.status ≡ Status.NoMemory → PutsPartThenMemory (D.files depot.old) words.now (failed_of added) (S.written out.old) (S.written out.new)) }
 
     // Under every other status, where the depot tells its files, the bytes put are exactly a report that
     // words and files give: its line, and under status 1 of `prove` the trace.
-    ensures report_put { IfSome (D.files depot.old) (λ files. UnlessFailed result.status (PutsAnswer files words.now (S.written out.old) (S.written out.new) result.status)) }
+    ensures report_put { IfSome (D.files depot.old) (λ files. UnlessFailed result.status (PutsAnswer files words.now (S.written out.old) (S.written out.new) (D.files depot.new) result.status)) }
 
     // When each of these statuses comes.
     ensures usage_iff { UnlessFailed result.status ((result.status ≡ Status.Usage) ↔ (command_of words.now ≡ None)) }
@@ -133,8 +156,10 @@ pub fn run_tool<D: Depot, S: Sink>(
     ensures not_yet_words { IfSome (D.files depot.old) (λ files. (command : Command) → command_of words.now ≡ Some command → task_of command ≡ None → UnlessFailed result.status (S.written out.new ≡ after_put (S.written out.old) (text_of (Report.Refused Refusal.NotYet (codes "words"))))) }
     ensures not_yet_file { IfSome (D.files depot.old) (λ files. (task : Task) (texts : List (List ℕ)) (kind : Kind) → task_asked words.now ≡ Some task → gathered files (wanted_of task) ≡ Ok texts → made_of task.work texts ≡ Err kind → UnlessFailed result.status (S.written out.new ≡ after_put (S.written out.old) (text_of (Report.Refused Refusal.NotYet (name_of task kind))))) }
 
-    // The trace that follows a refuted line replays to the difference of that line.
-    ensures refuted_replays { IfSome (D.files depot.old) (λ files. result.status ≡ Status.No → SampledDiffers files words.now → RefutedReplays files words.now (S.written out.old) (S.written out.new)) }
+    // The trace of a refuted line follows it, or under `--trace` is stored and the line stands alone; and
+    // it replays to the difference of that line.
+    ensures refuted_written { IfSome (D.files depot.old) (λ files. result.status ≡ Status.No → SampledDiffers files words.now → RefutedWritten files words.now (D.files depot.new) (S.written out.old) (S.written out.new)) }
+    ensures refuted_replays { IfSome (D.files depot.old) (λ files. result.status ≡ Status.No → SampledDiffers files words.now → RefutedReplays files words.now (D.files depot.new) (S.written out.old) (S.written out.new)) }
 
     // Nothing is kept beside the status, and neither count falls.
     ensures evidence_iff { result.evidence ≡ Evidence.Nothing }

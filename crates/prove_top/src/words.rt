@@ -54,13 +54,15 @@ pub(crate) enum Work {
     Replay(Text),
 }
 
-/// A command that is answered: the names of the three files of its block, and what is done with it.
+/// A command that is answered: the names of the three files of its block, what is done with it, and the
+/// name of the file that the trace of a difference is stored in.
 #[derive(Drop)]
 pub(crate) struct Task {
     pub rdl: Text,
     pub ports: Text,
     pub verilog: Text,
     pub work: Work,
+    pub trace_file: Option<Text>,
 }
 
 /// Whether this byte may stand in a name.
@@ -369,14 +371,11 @@ pub(crate) fn command_of(alloc: Global, words: &[Text]) -> Result<Option<Command
     Ok(None)
 }
 
-/// Whether no option is given but a seed.
+/// Whether no option is given but a seed and a file for the trace.
 fn is_plain(options: &Options) -> bool
     ensures { result ≡ is_plain options.now }
 {
-    options.bound.is_none()
-        && options.budget.is_none()
-        && options.cert.is_none()
-        && options.trace.is_none()
+    options.bound.is_none() && options.budget.is_none() && options.cert.is_none()
 }
 
 /// The task of a command, where it is one that is answered.
@@ -393,6 +392,7 @@ pub(crate) fn task_of(command: Command) -> Option<Task>
                 ports: names.ports,
                 verilog: names.verilog,
                 work: Work::Sample(options.seed.unwrap_or(1)),
+                trace_file: options.trace,
             })
         }
         Command::Replay(trace, names) => {
@@ -404,6 +404,7 @@ pub(crate) fn task_of(command: Command) -> Option<Task>
                 ports: names.ports,
                 verilog: names.verilog,
                 work: Work::Replay(trace),
+                trace_file: None,
             })
         }
         _ => None,

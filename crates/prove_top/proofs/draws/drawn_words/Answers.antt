@@ -1,4 +1,4 @@
-use Rattle.std.proofs.Common.{◌≡◌, ◌∙◌}
+use Rattle.std.proofs.Common.{◌∙◌}
 use Rattle.prove_top.proofs.DrawLemmas.{words_from-more}
 use Rattle.prove_top.proofs.draws.drawn_words.Goals as goal
 

@@ -1,4 +1,4 @@
-use Rattle.std.proofs.Common.{arith, ◌<◌}
+use Rattle.std.proofs.Common.{arith}
 use Rattle.prove_top.proofs.ReadingLemmas.{expression_at-zero, reads-more}
 use Rattle.prove_top.proofs.expressions.+expression.Goals as goal
 

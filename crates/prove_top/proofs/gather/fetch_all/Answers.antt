@@ -1,4 +1,4 @@
-use Rattle.std.proofs.Common.{◌≡◌, ℕ, ◌+◌, ◌≤◌, length, length-append, ◌∙◌, arith, Vec, Global}
+use Rattle.std.proofs.Common.{ℕ, length-append, ◌∙◌, arith, Vec, Global}
 use Rattle.std.proofs.lemmas.Result.{err_from_is_err_and}
 use Rattle.prove_top.proofs.GatherLemmas.{answer-step, calls-step, reads-halted, reads-all, reads-wanting-memory}
 use Rattle.prove_top.proofs.gather.fetch_all.Goals as goal
@@ -29,4 +29,4 @@ loop-want-preserved g c = record {
 }
 
 pub returns-clause-calls : goal.returns-clause-calls
-returns-clause-calls g c = reads-all _ _ c.args.wanted.now c.loop-want.want-index c.loop-want.invariant.calls
+returns-clause-calls g c = reads-all _ _ c.args.wanted.now c.loop-want.want-index c.loop-want-test.false c.loop-want.invariant.calls

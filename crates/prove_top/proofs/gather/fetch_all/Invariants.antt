@@ -1,7 +1,8 @@
-use Rattle.std.proofs.Common.{◌≡◌, ℕ, ◌≤◌, length, take, drop, IfSome}
+use Rattle.std.proofs.Common.{◌≡◌, ◌≤◌, length, take, drop, IfSome}
 use Rattle.tool_edge.specs.Calls.{after_calls}
 use Rattle.prove_top.specs.Gather.{gathered, contents, names_of}
-use Rattle.prove_top.proofs.GatherLemmas.{prepended, whole_reads}
+use Rattle.prove_top.proofs.GatherLemmas.{prepended}
+use Rattle.prove_top.specs.Reads.{whole_reads}
 use Rattle.prove_top.proofs.gather.fetch_all.Given as goal
 
 -- the files before this one are whole, and are the first of those gathered

@@ -1,7 +1,18 @@
-use Rattle.trace_replay.specs.LegalTrace.{IsLegalTrace}
-use Rattle.prove_top.specs.Answer.{wrong_report}
-use Rattle.prove_top.proofs.PlanLemmas.{as-replays, wrong-replays}
+use Rattle.std.proofs.Common.{length, refl, sym}
+use Rattle.std.proofs.lemmas.List.{length-map}
+use Rattle.trace_replay.specs.Trace.{lists_of, trace_difference}
+use Rattle.prove_top.specs.Answer.{trace_report, wrong_report}
+use Rattle.prove_top.proofs.PlanLemmas.{as-replays, legal-replays, wrong-replays}
 use Rattle.prove_top.proofs.plan.replay_report.Goals as goal
+
+pub returns-in-Ok-clause-report : goal.returns-in-Ok-clause-report
+returns-in-Ok-clause-report c =
+    let start = c.in-Ok.trace.start.items in
+    let edges = lists_of c.in-Ok.trace.edges.items in
+    let read = (c.in-Ok.ensures.accepts start edges).0 (refl, refl) in
+    as-replays c.args.block.now c.args.name.now c.args.text.now (trace_report (length c.in-Ok.trace.edges.items) (trace_difference c.args.block.now start edges)) c.trace_report.result
+    (legal-replays c.args.block.now c.args.name.now c.args.text.now start edges (length c.in-Ok.trace.edges.items) read.0 read.1 read.2 (sym (length-map c.in-Ok.trace.edges.items (λ v. v.items))))
+    c.trace_report.ensures.report
 
 pub returns-in-Err-At-clause-report : goal.returns-in-Err-At-clause-report
 returns-in-Err-At-clause-report c =

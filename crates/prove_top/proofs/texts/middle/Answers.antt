@@ -1,4 +1,4 @@
-use Rattle.std.proofs.Common.{◌≡◌, ℕ, ◌-◌, ◌<◌, List, ◌++◌, length, drop, take, sym, ◌∙◌, ap, arith, inl, inr, take-append-drop}
+use Rattle.std.proofs.Common.{◌≡◌, sym, ◌∙◌, arith, inl, inr, take-append-drop}
 use Rattle.prove_top.proofs.Pieces.{middle_of-none, middle_of-cut, same_bytes, other_bytes, head-piece, tail-piece, too-short}
 use Rattle.prove_top.proofs.texts.middle.Goals as goal
 use Rattle.prove_top.proofs.texts.middle.Goals.{then-bytes-head-via-then-bytes-head, then-bytes-head-via-else-bytes-head+then-bytes-head-2}

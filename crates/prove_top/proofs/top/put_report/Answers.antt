@@ -1,5 +1,5 @@
 use Rattle.std.proofs.Common.{◌≡◌, ◌∙◌, ap, refl, Err}
-use Rattle.tool_edge.specs.Written.{after_put, AppendsPart}
+use Rattle.tool_edge.specs.Written.{after_put}
 use Rattle.prove_top.specs.Report.{status_of, heading_of, trace_of, text_of}
 use Rattle.prove_top.proofs.EndLemmas.{ends-second, ends-failed, ends-wanting}
 use Rattle.prove_top.proofs.top.put_report.Goals as goal

@@ -1,12 +1,12 @@
-use Rattle.prove_top.proofs.EndLemmas.{ends-answer, reads-ran, reads-wanting}
+use Rattle.prove_top.proofs.EndLemmas.{ends-answer, calls-run, calls-wanting}
 use Rattle.prove_top.proofs.top.run.Goals as goal
 
 pub returns-in-Ok-clause-answer : goal.returns-in-Ok-clause-answer
-returns-in-Ok-clause-answer g c = ends-answer _ c.in-Ok.report c.args.words.now _ _ _ _ _ c.in-Ok.ensures.answer c.put_report.ensures.ends
+returns-in-Ok-clause-answer g c = ends-answer _ c.in-Ok.report c.args.words.now _ _ _ _ _ _ c.in-Ok.ensures.answer c.put_report.ensures.ends
 
-pub returns-in-Ok-clause-reads : goal.returns-in-Ok-clause-reads
-returns-in-Ok-clause-reads g c = reads-ran _ c.args.words.now _ _ c.in-Ok.report _ _ _ _ _ c.in-Ok.ensures.calls c.in-Ok.ensures.answer c.put_report.ensures.ends
+pub returns-in-Ok-clause-calls : goal.returns-in-Ok-clause-calls
+returns-in-Ok-clause-calls g c = calls-run _ _ c.args.words.now _ _ c.in-Ok.report _ _ _ _ _ c.in-Ok.ensures.calls c.in-Ok.ensures.answer c.put_report.ensures.ends
 
-pub returns-in-Err-clause-reads : goal.returns-in-Err-clause-reads
-returns-in-Err-clause-reads g c =
-    reads-wanting _ c.args.words.now _ _ _ _ _ _ _ _ c.in-Err.ensures.calls c.want_memory.ensures.status c.want_memory.ensures.written
+pub returns-in-Err-clause-calls : goal.returns-in-Err-clause-calls
+returns-in-Err-clause-calls g c =
+    calls-wanting _ _ c.args.words.now _ _ _ _ _ _ _ _ c.in-Err.ensures.calls c.want_memory.ensures.status c.want_memory.ensures.written
