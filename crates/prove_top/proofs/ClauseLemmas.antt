@@ -1,6 +1,7 @@
 -- What the calls and the end of a command tell, clause by clause.
-use Rattle.std.proofs.Common.{◌≡◌, ◌↔◌, ℕ, Bool, false, is_some, codes, List, [], ◌∷◌, Option, Some, None, Result, Ok, Err, IfSome, IsSome, IsSomeAnd, ◌⊎◌, inl, inr, refl, sym, ap, subst, arith, ◌∙◌}
+use Rattle.std.proofs.Common.{◌≡◌, ◌↔◌, ℕ, Bool, false, is_some, codes, List, [], ◌∷◌, Option, Some, None, Result, Ok, Err, IfSome, IsSome, IsSomeAnd, ◌⊎◌, inl, inr, refl, sym, ap, subst, arith, append-nil, ◌∙◌}
 use Rattle.tool_edge.specs.Causes.{Rose}
+use Rattle.tool_edge.specs.Calls.{after_calls}
 use Rattle.tool_edge.specs.Files.{Files}
 use Rattle.tool_edge.specs.Written.{after_put, AppendsPart}
 use Rattle.tool_edge.specs.declared.depot.DepotCall.{DepotCall}
@@ -19,20 +20,19 @@ use Rattle.prove_top.specs.declared.report.Status.TheVariants as status
 use Rattle.prove_top.specs.declared.words.Task.{Task}
 use Rattle.prove_top.specs.declared.words.Work.{Work}
 use Rattle.prove_top.specs.declared.words.Work.TheVariants as work
-use Rattle.trace_replay.specs.declared.fault.TraceCode.TheVariants as code
 use Rattle.trace_replay.specs.Trace.{trace_difference}
-use Rattle.trace_replay.proofs.TraceTheorem.{no-line, no-name, no-illegal, same_trace}
-use Rattle.prove_top.specs.Answer.{TellsFailed, Answers, CommandAnswer, AskedAnswer, FilesAnswer, WorkAnswer, ReplayAnswer, Replays, ReplaysTo, short_report, sample_report, block_of, run_report, difference_report, text_at, wanted_of, name_of}
+use Rattle.trace_replay.specs.Laws.{OneReading}
+use Rattle.prove_top.specs.Answer.{TellsFailed, Answers, CommandAnswer, AskedAnswer, FilesAnswer, WorkAnswer, ReplayAnswer, Replays, ReplaysTo, short_report, sample_report, block_of, run_report, difference_report, text_at, wanted_of, name_of, names_asked, task_names}
 use Rattle.prove_top.specs.Asked.{with_block, sample_block, replay_block, of_texts, of_task}
 use Rattle.prove_top.specs.Clauses.{Added, IsFaultOrMemory, PutsPart, PutsFault, PutsPartThenMemory, SampledDiffers, SampledAgrees, ReplayAgrees, ReplayDiffers}
-use Rattle.prove_top.specs.Ends.{Ends, MayReport, PutsAnswer, Ran, UnlessFailed}
+use Rattle.prove_top.specs.Ends.{Ends, MayReport, PutsAnswer, Ran, Runs, UnlessFailed}
 use Rattle.prove_top.specs.Gather.{gathered}
 use Rattle.prove_top.specs.Reads.{AreCalls, AreReads, Called, GoesOn, NoStores, failed_of}
 use Rattle.prove_top.specs.Report.{status_of, text_of}
-use Rattle.prove_top.specs.Sampled.{sampled, sampled_trace}
+use Rattle.prove_top.specs.Sampled.{sampled}
 use Rattle.std.specs.Option.{option_and_then}
 use Rattle.prove_top.specs.declared.words.Command.{Command}
-use Rattle.prove_top.specs.Words.{command_of, task_of}
+use Rattle.prove_top.specs.Words.{command_of, task_of, trace_file}
 use Rattle.prove_top.proofs.EndLemmas.{part-whole, unless-map}
 
 module _ (names : List (List ℕ)) (to : Option (List ℕ)) (before after : Option (List DepotCall)) (P : List DepotCall → Type 0) where
@@ -138,9 +138,7 @@ module _ (told : Option Files) (words : List (List ℕ)) (old new : Option (List
   no_memory_bytes (inr wants) said = record { middle = old; first = inr refl; last = wants.written }
 
 -- the status of a report, by the block and the seed, or the block and the trace text, that were asked for
-pub record Says (report : Report) (asked : Option (Block × ℕ)) (replayed : Option (Block × List ℕ)) : Type 0 where
-  pub refuted : (edge : ℕ) (what : Difference) (trace : List ℕ) (to : Option (List ℕ)) → report ≡ Refuted edge what trace to
-      → IsSomeAnd asked (λ a. (sampled a.0 a.1 ≡ Some (edge, what)) × (trace ≡ sampled_trace a.0 a.1 edge))
+record Says (report : Report) (asked : Option (Block × ℕ)) (replayed : Option (Block × List ℕ)) : Type 0 where
   unknown : (status_of report ≡ status.Unknown) ↔ IsSomeAnd asked (λ a. sampled a.0 a.1 ≡ None)
   agrees : (status_of report ≡ status.Yes) ↔ IsSomeAnd replayed (λ a. (count : ℕ) × ReplaysTo a.0 a.1 None count)
   differs : (status_of report ≡ status.No)
@@ -156,39 +154,23 @@ either-none a b (inr h) = b h
 -- a report under another status says nothing of a block
 quiet : (report : Report) → (status_of report ≡ status.Refused) ⊎ (status_of report ≡ status.Usage) → Says report None None
 quiet report (inl is) = record {
-  refuted = λ edge what trace to h. let no_way : status.Refused ≡ status.No = sym is ∙ ap status_of h in cc;
   unknown = neither-of (λ h. let no_way : status.Refused ≡ status.Unknown = sym is ∙ h in cc) (λ h. h);
   agrees = neither-of (λ h. let no_way : status.Refused ≡ status.Yes = sym is ∙ h in cc) (λ h. h);
   differs = neither-of (λ h. let no_way : status.Refused ≡ status.No = sym is ∙ h in cc) (either-none (λ h. h) (λ h. h));
 }
 quiet report (inr is) = record {
-  refuted = λ edge what trace to h. let no_way : status.Usage ≡ status.No = sym is ∙ ap status_of h in cc;
   unknown = neither-of (λ h. let no_way : status.Usage ≡ status.Unknown = sym is ∙ h in cc) (λ h. h);
   agrees = neither-of (λ h. let no_way : status.Usage ≡ status.Yes = sym is ∙ h in cc) (λ h. h);
   differs = neither-of (λ h. let no_way : status.Usage ≡ status.No = sym is ∙ h in cc) (either-none (λ h. h) (λ h. h));
 }
 
-first-is : (first : ℕ × Difference) (edge : ℕ) (what : Difference) → first.0 ≡ edge → first.1 ≡ what → first ≡ (edge, what)
-first-is first edge what a b = ap (λ e. (e, first.1)) a ∙ ap (λ w. (edge, w)) b
-
-refuted-says : (block : Block) (seed : ℕ) (first : ℕ × Difference) (due : Option (List ℕ)) → sampled block seed ≡ Some first
-    → (edge : ℕ) (what : Difference) (trace : List ℕ) (to : Option (List ℕ)) → Refuted first.0 first.1 (sampled_trace block seed first.0) due ≡ Refuted edge what trace to
-    → (sampled block seed ≡ Some (edge, what)) × (trace ≡ sampled_trace block seed edge)
-refuted-says block seed first due is edge what trace to h =
-    let e : first.0 ≡ edge = cc in
-    let w : first.1 ≡ what = cc in
-    let t : sampled_trace block seed first.0 ≡ trace = cc in
-    (is ∙ ap Some (first-is first edge what e w), sym t ∙ ap (sampled_trace block seed) e)
-
 difference-says : (block : Block) (seed : ℕ) (to : Option (List ℕ)) (first : Option (ℕ × Difference)) → first ≡ sampled block seed → Says (difference_report block seed to first) (Some (block, seed)) None
 difference-says block seed due None is = record {
-  refuted = λ edge what trace to h. cc;
   unknown = (λ h. sym is, λ h. refl);
   agrees = neither-of (λ h. cc) (λ h. h);
   differs = neither-of (λ h. cc) (either-none (λ h. let no_way : is_some (sampled block seed) ≡ false = ap is_some (sym is) in cc) (λ h. h));
 }
 difference-says block seed due (Some first) is = record {
-  refuted = refuted-says block seed first due (sym is);
   unknown = neither-of (λ h. cc) (λ h. let no_way : ◌≡◌ {A = Option (ℕ × Difference)} (Some first) None = is ∙ h in cc);
   agrees = neither-of (λ h. cc) (λ h. h);
   differs = (λ h. inl (ap is_some (sym is)), λ h. refl);
@@ -202,82 +184,85 @@ sample-says : (task : Task) (seed : ℕ) (block : Result Block Kind) → Says (s
 sample-says task seed (Ok block) = run-says block seed task.trace_file
 sample-says task seed (Err kind) = quiet (Refused NotYet (name_of task kind)) (inl refl)
 
--- the run of a trace text has one first difference
-one-run : (block : Block) (text : List ℕ) (a b : Option (ℕ × Difference)) (m n : ℕ) → ReplaysTo block text a m → ReplaysTo block text b n → a ≡ b
-one-run block text a b m n one two =
-    let same = same_trace block text one.start two.start one.edges two.edges one.legal.sizes two.legal.sizes one.is two.is in
-    sym one.first ∙ ap (λ s. trace_difference block s one.edges) same.0 ∙ ap (λ es. trace_difference block two.start es) same.1 ∙ two.first
-
 some-none : (first : ℕ × Difference) → ◌≡◌ {A = Option (ℕ × Difference)} (Some first) None → ⊥
 some-none first same = cc
 
 wrong-says : (block : Block) (text : List ℕ) (report : Report) → status_of report ≡ status.Refused → ((found : Option (ℕ × Difference)) (count : ℕ) → ReplaysTo block text found count → ⊥)
     → Says report None (Some (block, text))
 wrong-says block text report is none = record {
-  refuted = λ edge what trace to h. let no_way : status.Refused ≡ status.No = sym is ∙ ap status_of h in cc;
   unknown = neither-of (λ h. let no_way : status.Refused ≡ status.Unknown = sym is ∙ h in cc) (λ h. h);
   agrees = neither-of (λ h. let no_way : status.Refused ≡ status.Yes = sym is ∙ h in cc) (λ h. none None h.0 h.1);
   differs = neither-of (λ h. let no_way : status.Refused ≡ status.No = sym is ∙ h in cc) (either-none (λ h. h) (λ h. none (Some h.0) h.1.0 h.1.1));
 }
 
-replays-says : (block : Block) (name text : List ℕ) (report : Report) → Replays block name text report → Says report None (Some (block, text))
-replays-says block name text (Agrees edges) h = record {
-  refuted = λ edge what trace to e. cc;
-  unknown = neither-of (λ e. cc) (λ e. e);
-  agrees = (λ e. (edges, h), λ e. refl);
-  differs = neither-of (λ e. cc) (either-none (λ e. e) (λ e. some-none e.0 (one-run block text (Some e.0) None e.1.0 edges e.1.1 h)));
-}
-replays-says block name text (Differs edge what) h = record {
-  refuted = λ at found trace to e. cc;
-  unknown = neither-of (λ e. cc) (λ e. e);
-  agrees = neither-of (λ e. cc) (λ e. some-none (edge, what) (one-run block text (Some (edge, what)) None h.0 e.0 h.1 e.1));
-  differs = (λ e. inr ((edge, what), h), λ e. refl);
-}
-replays-says block name text (WrongTrace code.TraceLine line file) h =
-    wrong-says block text (WrongTrace code.TraceLine line file) refl (λ found count to. no-line block text to.start to.edges to.legal.sizes to.is line h.2)
-replays-says block name text (WrongTrace code.TraceName line file) h =
-    wrong-says block text (WrongTrace code.TraceName line file) refl (λ found count to. no-name block text to.start to.edges to.legal.sizes to.is line h.2)
-replays-says block name text (WrongTrace code.TraceIllegal line file) h =
-    wrong-says block text (WrongTrace code.TraceIllegal line file) refl (λ found count to. no-illegal block text to.start to.edges to.legal to.is line h.2)
-replays-says block name text (WrongTrace code.TraceSize line file) h = absurd h
-replays-says block name text (Refused TraceSize file) h = wrong-says block text (Refused TraceSize file) refl (λ found count to. let short = to.short in absurd (omega (arith, short, h.1)))
-replays-says block name text (Refused RdlSize file) h = absurd h
-replays-says block name text (Refused VlogSize file) h = absurd h
-replays-says block name text (Refused PortSize file) h = absurd h
-replays-says block name text (Refused NoFile file) h = absurd h
-replays-says block name text (Refused NotYet file) h = absurd h
-replays-says block name text Usage h = absurd h
-replays-says block name text (Refuted edge what trace to) h = absurd h
-replays-says block name text Simulated h = absurd h
-replays-says block name text (Fault store file) h = absurd h
-
 says-as : (report due : Report) (asked : Option (Block × ℕ)) (replayed : Option (Block × List ℕ)) → report ≡ due → Says due asked replayed → Says report asked replayed
 says-as report due asked replayed is h = let P : Report → Type 0 = λ r. Says r asked replayed in subst P (sym is) h
 
-replay-says : (task : Task) (trace text : List ℕ) (block : Result Block Kind) (report : Report) → ReplayAnswer task trace text block report → Says report None (with_block text block)
-replay-says task trace text (Ok block) report h = replays-says block trace text report h
-replay-says task trace text (Err kind) report h = says-as report (Refused NotYet (name_of task kind)) None None h (quiet (Refused NotYet (name_of task kind)) (inl refl))
+-- the run of a trace text has one first difference
+module _ (law : OneReading) where
+  one-run : (block : Block) (text : List ℕ) (a b : Option (ℕ × Difference)) (m n : ℕ) → ReplaysTo block text a m → ReplaysTo block text b n → a ≡ b
+  one-run block text a b m n one two =
+      let same = law.one_trace block text one.start two.start one.edges two.edges one.legal two.legal one.is two.is in
+      sym one.first ∙ ap (λ s. trace_difference block s one.edges) same.0 ∙ ap (λ es. trace_difference block two.start es) same.1 ∙ two.first
 
-work-says : (task : Task) (texts : List (List ℕ)) (does : Work) (report : Report) → WorkAnswer task texts does report → Says report (sample_block does texts) (replay_block does texts)
-work-says task texts (work.Sample seed) report h = says-as report _ _ _ h (sample-says task seed (block_of (text_at texts 0) (text_at texts 1) (text_at texts 2)))
-work-says task texts (work.Replay trace) report h = replay-says task trace (text_at texts 0) (block_of (text_at texts 1) (text_at texts 2) (text_at texts 3)) report h
+  replays-says : (block : Block) (name text : List ℕ) (report : Report) → Replays block name text report → Says report None (Some (block, text))
+  replays-says block name text (Agrees edges) h = record {
+    unknown = neither-of (λ e. cc) (λ e. e);
+    agrees = (λ e. (edges, h), λ e. refl);
+    differs = neither-of (λ e. cc) (either-none (λ e. e) (λ e. some-none e.0 (one-run block text (Some e.0) None e.1.0 edges e.1.1 h)));
+  }
+  replays-says block name text (Differs edge what) h = record {
+    unknown = neither-of (λ e. cc) (λ e. e);
+    agrees = neither-of (λ e. cc) (λ e. some-none (edge, what) (one-run block text (Some (edge, what)) None h.0 e.0 h.1 e.1));
+    differs = (λ e. inr ((edge, what), h), λ e. refl);
+  }
+  replays-says block name text (WrongTrace why line file) h =
+      wrong-says block text (WrongTrace why line file) refl (λ found count to. law.legal_or_refused block text to.start to.edges why line to.legal to.is h.2)
+  replays-says block name text (Refused TraceSize file) h = wrong-says block text (Refused TraceSize file) refl (λ found count to. let short = to.short in absurd (omega (arith, short, h.1)))
+  replays-says block name text (Refused RdlSize file) h = absurd h
+  replays-says block name text (Refused VlogSize file) h = absurd h
+  replays-says block name text (Refused PortSize file) h = absurd h
+  replays-says block name text (Refused NoFile file) h = absurd h
+  replays-says block name text (Refused NotYet file) h = absurd h
+  replays-says block name text Usage h = absurd h
+  replays-says block name text (Refuted edge what trace to) h = absurd h
+  replays-says block name text Simulated h = absurd h
+  replays-says block name text (Fault store file) h = absurd h
 
-short-status : (short : Shortfall) → status_of (short_report short) ≡ status.Refused
-short-status (Missing name) = refl
-short-status (Long kind name) = refl
+  replay-says : (task : Task) (trace text : List ℕ) (block : Result Block Kind) (report : Report) → ReplayAnswer task trace text block report → Says report None (with_block text block)
+  replay-says task trace text (Ok block) report h = replays-says block trace text report h
+  replay-says task trace text (Err kind) report h = says-as report (Refused NotYet (name_of task kind)) None None h (quiet (Refused NotYet (name_of task kind)) (inl refl))
 
-files-says : (task : Task) (files : Result (List (List ℕ)) Shortfall) (report : Report) → FilesAnswer task files report → Says report (of_texts sample_block task files) (of_texts replay_block task files)
-files-says task (Err short) report h = says-as report (short_report short) None None h (quiet (short_report short) (inl (short-status short)))
-files-says task (Ok texts) report h = work-says task texts task.work report h
+  work-says : (task : Task) (texts : List (List ℕ)) (does : Work) (report : Report) → WorkAnswer task texts does report → Says report (sample_block does texts) (replay_block does texts)
+  work-says task texts (work.Sample seed) report h = says-as report _ _ _ h (sample-says task seed (block_of (text_at texts 0) (text_at texts 1) (text_at texts 2)))
+  work-says task texts (work.Replay trace) report h = replay-says task trace (text_at texts 0) (block_of (text_at texts 1) (text_at texts 2) (text_at texts 3)) report h
 
-asked-says : (files : Files) (task : Option Task) (report : Report) → AskedAnswer files task report → Says report (of_task sample_block files task) (of_task replay_block files task)
-asked-says files None report h = says-as report (Refused NotYet (codes "words")) None None h (quiet (Refused NotYet (codes "words")) (inl refl))
-asked-says files (Some task) report h = files-says task (gathered files (wanted_of task)) report h
+  short-status : (short : Shortfall) → status_of (short_report short) ≡ status.Refused
+  short-status (Missing name) = refl
+  short-status (Long kind name) = refl
 
-pub command-says : (files : Files) (command : Option Command) (report : Report) → CommandAnswer files command report
-    → Says report (of_task sample_block files (option_and_then task_of command)) (of_task replay_block files (option_and_then task_of command))
-command-says files None report h = says-as report Usage None None h (quiet Usage (inr refl))
-command-says files (Some command) report h = asked-says files (task_of command) report h
+  files-says : (task : Task) (files : Result (List (List ℕ)) Shortfall) (report : Report) → FilesAnswer task files report → Says report (of_texts sample_block task files) (of_texts replay_block task files)
+  files-says task (Err short) report h = says-as report (short_report short) None None h (quiet (short_report short) (inl (short-status short)))
+  files-says task (Ok texts) report h = work-says task texts task.work report h
+
+  asked-says : (files : Files) (task : Option Task) (report : Report) → AskedAnswer files task report → Says report (of_task sample_block files task) (of_task replay_block files task)
+  asked-says files None report h = says-as report (Refused NotYet (codes "words")) None None h (quiet (Refused NotYet (codes "words")) (inl refl))
+  asked-says files (Some task) report h = files-says task (gathered files (wanted_of task)) report h
+
+  command-says : (files : Files) (command : Option Command) (report : Report) → CommandAnswer files command report
+      → Says report (of_task sample_block files (option_and_then task_of command)) (of_task replay_block files (option_and_then task_of command))
+  command-says files None report h = says-as report Usage None None h (quiet Usage (inr refl))
+  command-says files (Some command) report h = asked-says files (task_of command) report h
+
+  pub unknown-status : (words : List (List ℕ)) (files : Files) (report : Report) → Answers files words report → (status_of report ≡ status.Unknown) ↔ SampledAgrees files words
+  unknown-status words files report answer = (command-says files (command_of words) report answer).unknown
+
+  pub agrees-status : (words : List (List ℕ)) (files : Files) (report : Report) → Answers files words report → (status_of report ≡ status.Yes) ↔ ReplayAgrees files words
+  agrees-status words files report answer = (command-says files (command_of words) report answer).agrees
+
+  pub differs-status : (words : List (List ℕ)) (files : Files) (report : Report) → Answers files words report
+      → (status_of report ≡ status.No) ↔ (SampledDiffers files words ⊎ ReplayDiffers files words)
+  differs-status words files report answer = (command-says files (command_of words) report answer).differs
 
 pub status-iff : (told : Option Files) (ended due : Status) (words : List (List ℕ)) (old new : Option (List ℕ)) (after : Option Files) (F : Files → Type 0)
     → ((files : Files) (report : Report) → Answers files words report → (status_of report ≡ due) ↔ F files)
@@ -288,12 +273,44 @@ status-iff (Some files) ended due words old new after F f h =
     unless-map ended (PutsAnswer files words old new after ended) ((ended ≡ due) ↔ F files)
     (λ puts. let both = f files puts.report puts.answer in (λ e. both.0 (sym puts.said ∙ e), λ x. puts.said ∙ both.1 x)) h
 
-pub unknown-status : (words : List (List ℕ)) (files : Files) (report : Report) → Answers files words report → (status_of report ≡ status.Unknown) ↔ SampledAgrees files words
-unknown-status words files report answer = (command-says files (command_of words) report answer).unknown
+-- the usage line, and no call
+no-calls : (calls : List DepotCall) → AreCalls [] None calls → calls ≡ []
+no-calls [] are = refl
+no-calls (call ∷ calls) are = let no_way : ◌≡◌ {A = Option (List ℕ)} None (Some call.name) = are.0 in cc
 
-pub agrees-status : (words : List (List ℕ)) (files : Files) (report : Report) → Answers files words report → (status_of report ≡ status.Yes) ↔ ReplayAgrees files words
-agrees-status words files report answer = (command-says files (command_of words) report answer).agrees
+after-none : (told : Option (List DepotCall)) → after_calls told [] ≡ told
+after-none None = refl
+after-none (Some calls) = ap Some (append-nil calls)
 
-pub differs-status : (words : List (List ℕ)) (files : Files) (report : Report) → Answers files words report
-    → (status_of report ≡ status.No) ↔ (SampledDiffers files words ⊎ ReplayDiffers files words)
-differs-status words files report answer = (command-says files (command_of words) report answer).differs
+usage-is : (report : Report) → status_of report ≡ status.Usage → report ≡ Usage
+usage-is Usage said = refl
+usage-is (Refused why file) said = cc
+usage-is (WrongTrace why line file) said = cc
+usage-is (Refuted edge what trace to) said = cc
+usage-is Simulated said = cc
+usage-is (Agrees edges) said = cc
+usage-is (Differs edge what) said = cc
+usage-is (Fault store file) said = cc
+
+usage-ends : (report : Report) (old new : Option (List ℕ)) (before now : ℕ) (ended : Status) → ended ≡ status.Usage → Ends report old new before now ended → new ≡ after_put old (text_of Usage)
+usage-ends report old new before now ended said (inl done) = done.written ∙ ap (λ r. after_put old (text_of r)) (usage-is report (sym done.said ∙ said))
+usage-ends report old new before now ended said (inr (inl fails)) = let no_way : status.Fault ≡ status.Usage = sym fails.said ∙ said in cc
+usage-ends report old new before now ended said (inr (inr wants)) = let no_way : status.NoMemory ≡ status.Usage = sym wants.said ∙ said in cc
+
+usage-ran : (told : Option Files) (words : List (List ℕ)) (old new : Option (List ℕ)) (before now : ℕ) (ended : Status) (calls : List DepotCall) → ended ≡ status.Usage
+    → Ran told words old new before now ended calls → new ≡ after_put old (text_of Usage)
+usage-ran told words old new before now ended calls said (inl ran) = usage-ends ran.report old new before now ended said ran.ends
+usage-ran told words old new before now ended calls said (inr wants) = let no_way : status.NoMemory ≡ status.Usage = sym wants.said ∙ said in cc
+
+at-usage : (ended : Status) (P : Type 0) → ended ≡ status.Usage → UnlessFailed ended P → P
+at-usage ended P is h = let Q : Status → Type 0 = λ s. UnlessFailed s P in subst Q is h
+
+pub usage-report : (told after : Option Files) (words : List (List ℕ)) (calls_before calls_after : Option (List DepotCall)) (old new : Option (List ℕ)) (before now : ℕ) (ended : Status)
+    → UnlessFailed ended ((ended ≡ status.Usage) ↔ (command_of words ≡ None))
+    → Called (names_asked words) (trace_file words) calls_before calls_after (Runs told after words old new before now ended)
+    → ended ≡ status.Usage → (new ≡ after_put old (text_of Usage)) × (calls_after ≡ calls_before)
+usage-report told after words calls_before calls_after old new before now ended usage all said =
+    let none : command_of words ≡ None = (at-usage ended ((ended ≡ status.Usage) ↔ (command_of words ≡ None)) said usage).0 said in
+    let P : Option Task → Type 0 = λ t. AreCalls (task_names t) (option_and_then (λ task. task.trace_file) t) all.added in
+    let are : AreCalls [] None all.added = subst P (ap (option_and_then task_of) none) all.calls in
+    (usage-ran told words old new before now ended all.added said all.ends.ran, all.told ∙ ap (after_calls calls_before) (no-calls all.added are) ∙ after-none calls_before)

@@ -12,5 +12,6 @@ mod EndLemmas
 mod ClauseLemmas
 mod WordLemmas
 mod RefutedLemmas
+mod TextLemmas
 mod RefusalLemmas
 mod StoreLemmas

@@ -12,10 +12,9 @@ use Rattle.tool_edge.specs.Written.{after_put}
 use Rattle.trace_replay.specs.declared.block.Block.{Block}
 use Rattle.trace_replay.specs.declared.joint.Difference.{Difference}
 use Rattle.trace_replay.specs.Joint.{start_of}
-use Rattle.trace_replay.specs.Laws.{EndsThere}
+use Rattle.trace_replay.specs.Laws.{EndsThere, RunEndsThere}
 use Rattle.trace_replay.specs.LegalTrace.{FitsPins}
 use Rattle.trace_replay.specs.Trace.{edges_from}
-use Rattle.trace_replay.proofs.CutLemmas.{cut-run}
 use Rattle.prove_top.specs.declared.gather.Kind.{Kind}
 use Rattle.prove_top.specs.declared.gather.Shortfall.{Shortfall}
 use Rattle.prove_top.specs.declared.report.Report.{Report}
@@ -62,11 +61,11 @@ unfolding sampled_register
 register-small seed = taken-below 8 (sample_bits seed)
 
 -- the trace of the sampled run, cut after its first difference
-sampled-ends : (block : Block) (seed edge : ℕ) (difference : Difference) → sampled block seed ≡ Some (edge, difference)
+sampled-ends : (law : RunEndsThere) (block : Block) (seed edge : ℕ) (difference : Difference) → sampled block seed ≡ Some (edge, difference)
     → EndsThere block (low_bits 8 (sampled_register seed)) (edges_from block (start_of block (sampled_register seed)) (take (edge + 1) (sampled_wires block seed))) edge difference
 unfolding sampled_wires
-sampled-ends block seed edge difference found =
-    cut-run block (sampled_register seed) (choices_to (sample_bits seed) EDGES) edge difference (register-small seed)
+sampled-ends law block seed edge difference found =
+    law block (sampled_register seed) (choices_to (sample_bits seed) EDGES) edge difference (register-small seed)
     (let long = choices-length (sample_bits seed) EDGES in omega (arith, long)) (choices-fit (sample_bits seed) EDGES) found
 
 -- the report of a sampled run
@@ -150,9 +149,9 @@ written-put (Some files) after ended words old new puts = λ said differs.
     written-some files words after old new ended (asked_block files words) refl differs (at-no ended _ said puts)
 
 -- the trace that is written replays to that difference
-replays-written : (files : Files) (words : List (List ℕ)) (after : Option Files) (old new : Option (List ℕ)) → RefutedWritten files words after old new → RefutedReplays files words after old new
+replays-written : (law : RunEndsThere) (files : Files) (words : List (List ℕ)) (after : Option Files) (old new : Option (List ℕ)) → RefutedWritten files words after old new → RefutedReplays files words after old new
 unfolding sampled_trace
-replays-written files words after old new h = record {
+replays-written law files words after old new h = record {
   block = h.block;
   seed = h.seed;
   asked = h.asked;
@@ -160,13 +159,13 @@ replays-written files words after old new h = record {
   edges = edges_from h.block (start_of h.block (sampled_register h.seed)) (take (h.edge + 1) (sampled_wires h.block h.seed));
   edge = h.edge;
   difference = h.difference;
-  ends = sampled-ends h.block h.seed h.edge h.difference h.first;
+  ends = sampled-ends law h.block h.seed h.edge h.difference h.first;
   written = h.written;
 }
 
-pub refuted-put : (told after : Option Files) (ended : Status) (words : List (List ℕ)) (old new : Option (List ℕ))
+pub refuted-put : (law : RunEndsThere) (told after : Option Files) (ended : Status) (words : List (List ℕ)) (old new : Option (List ℕ))
     → IfSome told (λ files. UnlessFailed ended (PutsAnswer files words old new after ended))
     → IfSome told (λ files. ended ≡ status.No → SampledDiffers files words → RefutedReplays files words after old new)
-refuted-put None after ended words old new puts = tt
-refuted-put (Some files) after ended words old new puts = λ said differs.
-    replays-written files words after old new (written-some files words after old new ended (asked_block files words) refl differs (at-no ended _ said puts))
+refuted-put law None after ended words old new puts = tt
+refuted-put law (Some files) after ended words old new puts = λ said differs.
+    replays-written law files words after old new (written-some files words after old new ended (asked_block files words) refl differs (at-no ended _ said puts))

@@ -9,20 +9,31 @@ use Rattle.tool_edge.specs.Files.{Files, PartlyStored, with_file, with_told_file
 use Rattle.tool_edge.specs.declared.depot.DepotCall.{DepotCall}
 use Rattle.tool_edge.specs.declared.depot.DepotAnswer.{DepotAnswer}
 use Rattle.tool_edge.specs.declared.depot.DepotAnswer.TheVariants as answered
+use Rattle.trace_replay.specs.declared.block.Block.{Block}
+use Rattle.trace_replay.specs.declared.joint.Difference.{Difference}
 use Rattle.prove_top.specs.declared.report.Report.{Report}
 use Rattle.prove_top.specs.declared.report.Report.TheVariants.{Usage, Refused, WrongTrace, Refuted, Simulated, Agrees, Differs, Fault}
 use Rattle.prove_top.specs.declared.report.Status.{Status}
 use Rattle.prove_top.specs.declared.report.Status.TheVariants as status
-use Rattle.prove_top.specs.Answer.{Answers, ComesAfter, TellsFailed, UnlessFault, names_asked}
-use Rattle.prove_top.specs.Asked.{asked_block}
+use Rattle.prove_top.specs.Answer.{Answers, AskedAnswer, CommandAnswer, ComesAfter, FilesAnswer, ReplayAnswer, TellsFailed, UnlessFault, WorkAnswer, block_of, difference_report, names_asked, run_report, sample_report, short_report, text_at, wanted_of}
+use Rattle.prove_top.specs.Asked.{asked_block, of_task, of_texts, sample_block, with_block}
+use Rattle.prove_top.specs.Gather.{gathered}
+use Rattle.std.specs.Option.{option_and_then}
+use Rattle.prove_top.specs.declared.gather.Kind.{Kind}
+use Rattle.prove_top.specs.declared.gather.Shortfall.{Shortfall}
+use Rattle.prove_top.specs.declared.gather.Shortfall.TheVariants.{Missing, Long}
+use Rattle.prove_top.specs.declared.words.Command.{Command}
+use Rattle.prove_top.specs.declared.words.Task.{Task}
+use Rattle.prove_top.specs.declared.words.Work.{Work}
+use Rattle.prove_top.specs.declared.words.Work.TheVariants as work
 use Rattle.prove_top.specs.Clauses.{Added, FilesEnd, OthersKept, StoreAfterReads, WholeButTheLast}
 use Rattle.prove_top.specs.Ends.{PutsAnswer, Runs, UnlessFailed, UnlessStores}
 use Rattle.prove_top.specs.Reads.{AreCalls, AreReads, Called, GoesOn, ReadsOnly, failed_of, whole_reads}
 use Rattle.prove_top.specs.Report.{file_of, run_trace, status_of}
 use Rattle.prove_top.specs.Sampled.{sampled, sampled_trace}
 use Rattle.prove_top.specs.Store.{Kept, Settles, StoreKept, StoreStep, TraceDue, files_after}
-use Rattle.prove_top.specs.Words.{command_of, trace_file}
-use Rattle.prove_top.proofs.ClauseLemmas.{command-says, reads-stores}
+use Rattle.prove_top.specs.Words.{command_of, task_of, trace_file}
+use Rattle.prove_top.proofs.ClauseLemmas.{reads-stores}
 use Rattle.prove_top.proofs.EndLemmas.{report-map}
 use Rattle.prove_top.proofs.GatherLemmas.{after_calls-twice, failed-whole}
 
@@ -94,6 +105,64 @@ store-after (name ∷ names) to (first ∷ calls) are (one ∷ front) back call 
     let rest = store-after names to calls goes.1 front back call more stores in
     (ap (λ c. c ∷ front) (sym same ∙ whole-read first name are.0 are.1 goes.0) ∙ ap (λ cs. record { name = name; store = false; answer = answered.Whole } ∷ cs) rest.0, rest.1)
 
+first-is : (first : ℕ × Difference) (edge : ℕ) (what : Difference) → first.0 ≡ edge → first.1 ≡ what → first ≡ (edge, what)
+first-is first edge what a b = ap (λ e. (e, first.1)) a ∙ ap (λ w. (edge, w)) b
+
+refuted-says : (block : Block) (seed : ℕ) (first : ℕ × Difference) (due : Option (List ℕ)) → sampled block seed ≡ Some first
+    → (edge : ℕ) (what : Difference) (trace : List ℕ) (to : Option (List ℕ)) → Refuted first.0 first.1 (sampled_trace block seed first.0) due ≡ Refuted edge what trace to
+    → (sampled block seed ≡ Some (edge, what)) × (trace ≡ sampled_trace block seed edge)
+refuted-says block seed first due is edge what trace to h =
+    let e : first.0 ≡ edge = cc in
+    let w : first.1 ≡ what = cc in
+    let t : sampled_trace block seed first.0 ≡ trace = cc in
+    (is ∙ ap Some (first-is first edge what e w), sym t ∙ ap (sampled_trace block seed) e)
+
+refuted-found : (block : Block) (seed : ℕ) (due : Option (List ℕ)) (found : Option (ℕ × Difference)) → sampled block seed ≡ found
+    → (edge : ℕ) (what : Difference) (trace : List ℕ) (to : Option (List ℕ)) → Refuted edge what trace to ≡ difference_report block seed due found
+    → (sampled block seed ≡ Some (edge, what)) × (trace ≡ sampled_trace block seed edge)
+refuted-found block seed due None is edge what trace to h = cc
+refuted-found block seed due (Some first) is edge what trace to h = refuted-says block seed first due is edge what trace to (sym h)
+
+refuted-run : (block : Block) (seed : ℕ) (due : Option (List ℕ)) (edge : ℕ) (what : Difference) (trace : List ℕ) (to : Option (List ℕ)) → Refuted edge what trace to ≡ run_report block seed due
+    → (sampled block seed ≡ Some (edge, what)) × (trace ≡ sampled_trace block seed edge)
+unfolding run_report
+refuted-run block seed due edge what trace to h = refuted-found block seed due (sampled block seed) refl edge what trace to h
+
+-- what a report of a difference says of the sampled run
+module _ (edge : ℕ) (what : Difference) (trace : List ℕ) (to : Option (List ℕ)) where
+  abbrev IsCut : Block × ℕ → Type 0
+  IsCut a = (sampled a.0 a.1 ≡ Some (edge, what)) × (trace ≡ sampled_trace a.0 a.1 edge)
+
+  cut-of-block : (task : Task) (seed : ℕ) (made : Result Block Kind) → Refuted edge what trace to ≡ sample_report task seed made → IsSomeAnd (with_block seed made) IsCut
+  cut-of-block task seed (Err kind) h = cc
+  cut-of-block task seed (Ok block) h = refuted-run block seed task.trace_file edge what trace to h
+
+  cut-of-replay : (task : Task) (name text : List ℕ) (made : Result Block Kind) (Q : Type 0) → ReplayAnswer task name text made (Refuted edge what trace to) → Q
+  cut-of-replay task name text (Err kind) Q h = cc
+  cut-of-replay task name text (Ok block) Q h = absurd h
+
+  cut-of-work : (task : Task) (texts : List (List ℕ)) (does : Work) → WorkAnswer task texts does (Refuted edge what trace to) → IsSomeAnd (sample_block does texts) IsCut
+  cut-of-work task texts (work.Sample seed) h = cut-of-block task seed (block_of (text_at texts 0) (text_at texts 1) (text_at texts 2)) h
+  cut-of-work task texts (work.Replay name) h =
+      cut-of-replay task name (text_at texts 0) (block_of (text_at texts 1) (text_at texts 2) (text_at texts 3)) (IsSomeAnd (sample_block (work.Replay name) texts) IsCut) h
+
+  other-short : (short : Shortfall) (Q : Type 0) → Refuted edge what trace to ≡ short_report short → Q
+  other-short (Missing name) Q h = cc
+  other-short (Long kind name) Q h = cc
+
+  cut-of-files : (task : Task) (got : Result (List (List ℕ)) Shortfall) → FilesAnswer task got (Refuted edge what trace to) → IsSomeAnd (of_texts sample_block task got) IsCut
+  cut-of-files task (Err short) h = other-short short (IsSomeAnd (of_texts sample_block task (Err short)) IsCut) h
+  cut-of-files task (Ok texts) h = cut-of-work task texts task.work h
+
+  cut-of-asked : (files : Files) (task : Option Task) → AskedAnswer files task (Refuted edge what trace to) → IsSomeAnd (of_task sample_block files task) IsCut
+  cut-of-asked files None h = cc
+  cut-of-asked files (Some task) h = cut-of-files task (gathered files (wanted_of task)) h
+
+  cut-of-command : (files : Files) (command : Option Command) → CommandAnswer files command (Refuted edge what trace to)
+      → IsSomeAnd (of_task sample_block files (option_and_then task_of command)) IsCut
+  cut-of-command files None h = cc
+  cut-of-command files (Some command) h = cut-of-asked files (task_of command) h
+
 -- the trace that a report is to store
 some-and : {A : Type 0} (o : Option A) (P : A → Type 0) → IsSomeAnd o P → (a : A) × (o ≡ Some a) × P a
 some-and None P h = absurd h
@@ -105,8 +174,7 @@ no-file name Q is = cc
 trace-due : (files : Files) (words : List (List ℕ)) (report : Report) (name : List ℕ) → Answers files words report → trace_file words ≡ Some name → file_of report ≡ Some name
     → TraceDue files words name (run_trace report)
 trace-due files words (Refuted edge what trace to) name answer asked is =
-    let found = some-and (asked_block files words) (λ a. (sampled a.0 a.1 ≡ Some (edge, what)) × (trace ≡ sampled_trace a.0 a.1 edge))
-    ((command-says files (command_of words) (Refuted edge what trace to) answer).refuted edge what trace to refl) in
+    let found = some-and (asked_block files words) (λ a. (sampled a.0 a.1 ≡ Some (edge, what)) × (trace ≡ sampled_trace a.0 a.1 edge)) (cut-of-command edge what trace to files (command_of words) answer) in
     record { asked = asked; block = found.0.0; seed = found.0.1; of = found.1; edge = edge; difference = what; first = found.2.0; trace = found.2.1 }
 trace-due files words Usage name answer asked is = no-file name _ is
 trace-due files words (Refused why file) name answer asked is = no-file name _ is

@@ -9,8 +9,7 @@ use Rattle.trace_replay.specs.declared.fault.TraceCode.TheVariants as code
 use Rattle.trace_replay.specs.declared.joint.Difference.{Difference}
 use Rattle.trace_replay.specs.declared.read.TheConstants.{TRACE_LIMIT}
 use Rattle.trace_replay.specs.LegalTrace.{IsLegalTrace}
-use Rattle.trace_replay.specs.Lines.{lines_of}
-use Rattle.trace_replay.specs.Reading.{IsIllegal, IsWrongLine, IsWrongName}
+use Rattle.trace_replay.specs.Reading.{IsRefusedAt}
 use Rattle.trace_replay.specs.Trace.{trace_difference}
 use Rattle.trace_replay.specs.TraceText.{trace_text}
 use Rattle.prove_top.specs.declared.gather.Kind.{Kind}
@@ -110,10 +109,7 @@ pub record ReplaysTo (block : Block) (text : List ℕ) (found : Option (ℕ × D
 abbrev pub Replays : Block → List ℕ → List ℕ → Report → Type 0
 Replays block name text (Agrees edges) = ReplaysTo block text None edges
 Replays block name text (Differs edge what) = (count : ℕ) × ReplaysTo block text (Some (edge, what)) count
-Replays block name text (WrongTrace code.TraceLine line file) = (file ≡ name) × (length text ≤ TRACE_LIMIT) × IsWrongLine (lines_of text) line
-Replays block name text (WrongTrace code.TraceName line file) = (file ≡ name) × (length text ≤ TRACE_LIMIT) × IsWrongName (lines_of text) line
-Replays block name text (WrongTrace code.TraceIllegal line file) = (file ≡ name) × (length text ≤ TRACE_LIMIT) × IsIllegal block text line
-Replays block name text (WrongTrace code.TraceSize line file) = ⊥
+Replays block name text (WrongTrace code line file) = (file ≡ name) × (length text ≤ TRACE_LIMIT) × IsRefusedAt block text code line
 Replays block name text (Refused TraceSize file) = (file ≡ name) × (TRACE_LIMIT < length text)
 Replays block name text (Refused RdlSize file) = ⊥
 Replays block name text (Refused VlogSize file) = ⊥

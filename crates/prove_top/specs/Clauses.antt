@@ -17,7 +17,6 @@ use Rattle.prove_top.specs.Ends.{MayReport}
 use Rattle.prove_top.specs.Reads.{whole_reads}
 use Rattle.trace_replay.specs.declared.joint.Difference.{Difference}
 use Rattle.trace_replay.specs.Laws.{EndsThere}
-use Rattle.trace_replay.specs.LegalTrace.{IsLegalTrace}
 use Rattle.trace_replay.specs.TraceText.{trace_text}
 use Rattle.prove_top.specs.Report.{text_of, refuted_line}
 use Rattle.prove_top.specs.Sampled.{sampled, sampled_trace}
@@ -94,10 +93,6 @@ ReplayDiffers files words = IsSomeAnd (asked_replay files words) (λ asked. (fir
 
 abbrev pub ReplayAgrees : Files → List (List ℕ) → Type 0
 ReplayAgrees files words = IsSomeAnd (asked_replay files words) (λ asked. (count : ℕ) × ReplaysTo asked.0 asked.1 None count)
-
--- a trace is refused: its text isn't that of a legal trace of the block
-abbrev pub ReplayRefused : Files → List (List ℕ) → Type 0
-ReplayRefused files words = IsSomeAnd (asked_replay files words) (λ asked. (start : List Bool) (edges : List (List Bool)) → IsLegalTrace asked.0 start edges → asked.1 ≡ trace_text start edges → ⊥)
 
 -- the line of the sampled run's difference is put, and its trace, cut after that edge, is written
 pub record RefutedWritten (files : Files) (words : List (List ℕ)) (after : Option Files) (old new : Option (List ℕ)) : Type 0 where

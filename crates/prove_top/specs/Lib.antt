@@ -15,4 +15,5 @@ pub mod Asked
 pub mod Store
 pub mod Ends
 pub mod Laws
+pub mod Refusals
 pub mod Clauses

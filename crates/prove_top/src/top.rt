@@ -1,21 +1,19 @@
 //! The top call.
 
-ghost use Rattle.std.specs.Prelude.{◌≡◌, ◌≤◌, ◌↔◌, ◌⊎◌, ℕ, Bool, List, Some, None, Ok, Err, IfOk, IfSome, IsSome, codes};
+ghost use Rattle.std.specs.Prelude.{◌≡◌, ◌≢◌, ◌^◌, ◌<◌, ◌≤◌, ◌↔◌, ◌⊎◌, ℕ, Bool, List, Some, None, IfOk, IfSome, IsSome};
 ghost use Rattle.tool_edge.specs.Causes.{Rose};
 ghost use Rattle.tool_edge.specs.Written.{after_put, AppendsPart};
-ghost use Rattle.prove_top.specs.Answer.{IfFault, IsUsage, TellsFailed, UnlessFault, name_of, names_asked, short_report, wanted_of};
+ghost use Rattle.prove_top.specs.Answer.{IfFault, IsUsage, TellsFailed, UnlessFault, names_asked, size_refusal};
 ghost use Rattle.prove_top.specs.Clauses.{Added, FilesEnd, IsFaultOrMemory, OthersKept, PutsFault, PutsPart, PutsPartThenMemory, RefutedReplays, RefutedWritten, ReplayAgrees, ReplayDiffers, SampledAgrees, SampledDiffers, StoreAfterReads, WholeButTheLast};
-ghost use Rattle.prove_top.specs.Asked.{made_of};
 ghost use Rattle.prove_top.specs.Ends.{Ends, EndsPut, PutsAnswer, Runs, UnlessFailed, UnlessStores};
 ghost use Rattle.prove_top.specs.Reads.{AreCalls, Called, failed_of};
 ghost use Rattle.prove_top.specs.Store.{Kept, Settles};
-ghost use Rattle.prove_top.specs.Gather.{gathered};
+ghost use Rattle.prove_top.specs.Refusals.{IsNotYet, IsTraceRefused, PutsIff, PutsRefusal, lacking, replayed};
 ghost use Rattle.prove_top.specs.Report.{status_of, text_of, trace_of};
-ghost use Rattle.prove_top.specs.Words.{command_of, task_asked, task_of, trace_file};
+ghost use Rattle.prove_top.specs.Words.{command_of, trace_file};
 ghost use Rattle.prove_top.specs.declared.gather.Kind.{Kind};
 ghost use Rattle.prove_top.specs.declared.gather.Shortfall.{Shortfall};
-ghost use Rattle.prove_top.specs.declared.words.Command.{Command};
-ghost use Rattle.prove_top.specs.declared.words.Task.{Task};
+ghost use Rattle.trace_replay.specs.declared.fault.TraceCode.{TraceCode};
 
 use crate::plan::plan;
 use crate::report::{MEMORY_LINE, Refusal, Report, Status};
@@ -24,6 +22,7 @@ use bit_base::text::Text;
 use std::alloc::{AllocError, Global};
 use tool_edge::depot::Depot;
 use tool_edge::sink::{Sink, SinkFault};
+use trace_replay::laws::{one_reading, run_ends_there};
 
 /// What a command leaves to be kept beside its status.
 #[derive(Clone, Copy)]
@@ -148,13 +147,19 @@ pub fn run_tool<D: Depot, S: Sink>(
     ensures usage_iff { UnlessFailed result.status ((result.status ≡ Status.Usage) ↔ (command_of words.now ≡ None)) }
     ensures simulated_iff { IfSome (D.files depot.old) (λ files. UnlessFailed result.status ((result.status ≡ Status.Unknown) ↔ SampledAgrees files words.now)) }
     ensures agrees_iff { IfSome (D.files depot.old) (λ files. UnlessFailed result.status ((result.status ≡ Status.Yes) ↔ ReplayAgrees files words.now)) }
-    ensures refuted_and_differs_iff { IfSome (D.files depot.old) (λ files. UnlessFailed result.status ((result.status ≡ Status.No) ↔ (SampledDiffers files words.now ⊎ ReplayDiffers files words.now))) }
+    ensures refuted_sampled_iff { IfSome (D.files depot.old) (λ files. replayed words.now ≡ None → UnlessFailed result.status ((result.status ≡ Status.No) ↔ SampledDiffers files words.now)) }
+    ensures differs_iff { IfSome (D.files depot.old) (λ files. IsSome (replayed words.now) → UnlessFailed result.status ((result.status ≡ Status.No) ↔ ReplayDiffers files words.now)) }
 
-    // The refusals: a file that isn't there or is too long, words that aren't answered yet, and a file
-    // that isn't of the first form.
-    ensures no_file_and_long_file { IfSome (D.files depot.old) (λ files. (task : Task) (short : Shortfall) → task_asked words.now ≡ Some task → gathered files (wanted_of task) ≡ Err short → UnlessFailed result.status (S.written out.new ≡ after_put (S.written out.old) (text_of (short_report short)))) }
-    ensures not_yet_words { IfSome (D.files depot.old) (λ files. (command : Command) → command_of words.now ≡ Some command → task_of command ≡ None → UnlessFailed result.status (S.written out.new ≡ after_put (S.written out.old) (text_of (Report.Refused Refusal.NotYet (codes "words"))))) }
-    ensures not_yet_file { IfSome (D.files depot.old) (λ files. (task : Task) (texts : List (List ℕ)) (kind : Kind) → task_asked words.now ≡ Some task → gathered files (wanted_of task) ≡ Ok texts → made_of task.work texts ≡ Err kind → UnlessFailed result.status (S.written out.new ≡ after_put (S.written out.old) (text_of (Report.Refused Refusal.NotYet (name_of task kind))))) }
+    // The usage line alone is put for words outside the grammar, with no call.
+    ensures usage_report { result.status ≡ Status.Usage → (S.written out.new ≡ after_put (S.written out.old) (text_of Report.Usage)) × (D.calls depot.new ≡ D.calls depot.old) }
+
+    // Each refusal is put exactly where it is due: a file that isn't there or is too long, words or a file
+    // that aren't answered yet, a trace that is refused; and status 3 comes with one of these.
+    ensures no_file_iff { IfSome (D.files depot.old) (λ files. (file : List ℕ) → PutsIff (S.written out.old) (S.written out.new) result.status (Report.Refused Refusal.NoFile file) (lacking files words.now ≡ Some (Shortfall.Missing file))) }
+    ensures long_file_iff { IfSome (D.files depot.old) (λ files. (kind : Kind) (file : List ℕ) → PutsIff (S.written out.old) (S.written out.new) result.status (Report.Refused (size_refusal kind) file) (lacking files words.now ≡ Some (Shortfall.Long kind file))) }
+    ensures not_yet_iff { IfSome (D.files depot.old) (λ files. (file : List ℕ) → PutsIff (S.written out.old) (S.written out.new) result.status (Report.Refused Refusal.NotYet file) (IsNotYet files words.now file)) }
+    ensures refused_iff { IfSome (D.files depot.old) (λ files. (code : TraceCode) (line : ℕ) (file : List ℕ) → code ≢ TraceCode.TraceSize → line < 2 ^ 64 → replayed words.now ≡ Some file → PutsIff (S.written out.old) (S.written out.new) result.status (Report.WrongTrace code line file) (IsTraceRefused files words.now code line)) }
+    ensures refused_report { IfSome (D.files depot.old) (λ files. UnlessFailed result.status ((result.status ≡ Status.Refused) ↔ PutsRefusal files words.now (S.written out.old) (S.written out.new))) }
 
     // The trace of a refuted line follows it, or under `--trace` is stored and the line stands alone; and
     // it replays to the difference of that line.
@@ -165,6 +170,8 @@ pub fn run_tool<D: Depot, S: Sink>(
     ensures evidence_iff { result.evidence ≡ Evidence.Nothing }
     ensures counts_rise { (D.faults depot.old ≤ D.faults depot.new) × (S.faults out.old ≤ S.faults out.new) }
 {
+    run_ends_there();
+    one_reading();
     let status = run(alloc, words, depot, out);
     Ended {
         status,

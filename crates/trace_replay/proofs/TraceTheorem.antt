@@ -10,7 +10,8 @@ use Rattle.trace_replay.specs.declared.read.TheConstants.{TRACE_LIMIT}
 use Rattle.trace_replay.specs.declared.trace.Trace.{Trace}
 use Rattle.trace_replay.specs.LegalTrace.{HasSizes, IsAllowed, IsFirstForbidden, IsLegalTrace}
 use Rattle.trace_replay.specs.Lines.{lines_of}
-use Rattle.trace_replay.specs.Reading.{GivesTrace, IsIllegal, IsWrongLine, IsWrongName, Refuses, UnlessWanting}
+use Rattle.trace_replay.specs.Laws.{OneReading}
+use Rattle.trace_replay.specs.Reading.{GivesTrace, IsIllegal, IsRefusedAt, IsWrongLine, IsWrongName, Refuses, UnlessWanting}
 use Rattle.trace_replay.specs.Steps.{ReadsLines}
 use Rattle.trace_replay.specs.Trace.{lists_of}
 use Rattle.trace_replay.specs.TraceText.{trace_text}
@@ -103,6 +104,29 @@ module _ (block : FlatBlock) (bytes : List ℕ) where
       let Q : List (List Bool) → Type 0 = λ x. IsLegalTrace block s x × (bytes ≡ trace_text s x) in
       subst P p (subst Q q (legal, text))
 
+  -- at most one answer
+  pub never-both : (start : List Bool) (edges : List (List Bool)) (why : TraceCode) (line : ℕ) → IsLegalTrace block start edges → bytes ≡ trace_text start edges
+      → IsRefusedAt block bytes why line → ⊥
+  never-both start edges code.TraceLine line legal text wrong = no-line start edges legal.sizes text line wrong
+  never-both start edges code.TraceName line legal text wrong = no-name start edges legal.sizes text line wrong
+  never-both start edges code.TraceIllegal line legal text wrong = no-illegal start edges legal text line wrong
+  never-both start edges code.TraceSize line legal text wrong = wrong
+
+  pub one-refusal : (why other : TraceCode) (line at : ℕ) → IsRefusedAt block bytes why line → IsRefusedAt block bytes other at → (why ≡ other) × (line ≡ at)
+  one-refusal code.TraceLine code.TraceLine line at one two = (refl, one-line (lines_of bytes) line at one two)
+  one-refusal code.TraceLine code.TraceName line at one two = absurd (line-or-name (lines_of bytes) line at one two)
+  one-refusal code.TraceLine code.TraceIllegal line at one two = absurd (no-line two.start two.edges two.sizes two.text line one)
+  one-refusal code.TraceName code.TraceLine line at one two = absurd (line-or-name (lines_of bytes) at line two one)
+  one-refusal code.TraceName code.TraceName line at one two = (refl, one-name (lines_of bytes) line at one two)
+  one-refusal code.TraceName code.TraceIllegal line at one two = absurd (no-name two.start two.edges two.sizes two.text line one)
+  one-refusal code.TraceIllegal code.TraceLine line at one two = absurd (no-line one.start one.edges one.sizes one.text at two)
+  one-refusal code.TraceIllegal code.TraceName line at one two = absurd (no-name one.start one.edges one.sizes one.text at two)
+  one-refusal code.TraceIllegal code.TraceIllegal line at one two = (refl, one-illegal line at one two)
+  one-refusal code.TraceSize other line at one two = absurd one
+  one-refusal code.TraceLine code.TraceSize line at one two = absurd two
+  one-refusal code.TraceName code.TraceSize line at one two = absurd two
+  one-refusal code.TraceIllegal code.TraceSize line at one two = absurd two
+
   -- the clauses
   pub accepts : (r : Result Trace TraceFault) → Truth r
       → UnlessWanting r ((start : List Bool) (edges : List (List Bool)) → GivesTrace r start edges ↔ (Short × IsLegalTrace block start edges × (bytes ≡ trace_text start edges)))
@@ -166,3 +190,10 @@ module _ (block : FlatBlock) (bytes : List ℕ) where
   pub legal_of : (r : Result Trace TraceFault) → Truth r → IfOk r (λ trace. IsLegalTrace block trace.start.items (lists_of trace.edges.items))
   legal_of (Ok trace) true_ = true_.1
   legal_of (Err fault) true_ = tt
+
+pub one-reading : OneReading
+one-reading = record {
+  one_trace = λ block bytes s t a b one two p q. same_trace block bytes s t a b one.sizes two.sizes p q;
+  legal_or_refused = λ block bytes start edges why line legal text wrong. never-both block bytes start edges why line legal text wrong;
+  one_refusal = λ block bytes why other line at one two. one-refusal block bytes why other line at one two;
+}

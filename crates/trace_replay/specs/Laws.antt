@@ -8,7 +8,10 @@ use Rattle.trace_replay.specs.declared.joint.Difference.{Difference}
 use Rattle.trace_replay.specs.declared.trace.TheConstants.{START_BITS, EDGE_LIMIT}
 use Rattle.trace_replay.specs.Joint.{start_of, wires_from, first_difference}
 use Rattle.trace_replay.specs.LegalTrace.{FitsPins, IsLegalTrace}
+use Rattle.trace_replay.specs.Reading.{IsRefusedAt}
 use Rattle.trace_replay.specs.Trace.{edges_from, trace_difference}
+use Rattle.trace_replay.specs.TraceText.{trace_text}
+use Rattle.trace_replay.specs.declared.fault.TraceCode.{TraceCode}
 
 -- a legal trace, cut after the edge of its first difference, is legal, and has that difference at its last
 -- edge
@@ -29,3 +32,13 @@ RunEndsThere = (block : FlatBlock) (register : ℕ) (choices : List Choice) (edg
     → first_difference block register (wires_from block (start_of block register) choices) ≡ Some (edge, difference)
     → EndsThere block (low_bits START_BITS register)
     (edges_from block (start_of block register) (take (edge + 1) (wires_from block (start_of block register) choices))) edge difference
+
+-- a text is that of at most one trace of a block; that of a legal one isn't refused; and it is refused for
+-- one reason, at one line
+pub record OneReading : Type 0 where
+  pub one_trace : (block : FlatBlock) (bytes : List ℕ) (s t : List Bool) (a b : List (List Bool)) → IsLegalTrace block s a → IsLegalTrace block t b
+      → bytes ≡ trace_text s a → bytes ≡ trace_text t b → (s ≡ t) × (a ≡ b)
+  pub legal_or_refused : (block : FlatBlock) (bytes : List ℕ) (start : List Bool) (edges : List (List Bool)) (code : TraceCode) (line : ℕ)
+      → IsLegalTrace block start edges → bytes ≡ trace_text start edges → IsRefusedAt block bytes code line → ⊥
+  pub one_refusal : (block : FlatBlock) (bytes : List ℕ) (code other : TraceCode) (line at : ℕ) → IsRefusedAt block bytes code line → IsRefusedAt block bytes other at
+      → (code ≡ other) × (line ≡ at)

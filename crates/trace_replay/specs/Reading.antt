@@ -6,9 +6,10 @@ use Rattle.trace_replay.specs.declared.trace.Trace.{Trace}
 use Rattle.trace_replay.specs.declared.trace.TheConstants.{START_BITS, EDGE_LIMIT}
 use Rattle.trace_replay.specs.declared.input.TheConstants.{INPUT_BITS}
 use Rattle.trace_replay.specs.declared.fault.TraceCode.{TraceCode}
+use Rattle.trace_replay.specs.declared.fault.TraceCode.TheVariants as code
 use Rattle.trace_replay.specs.declared.fault.TraceFault.{TraceFault}
 use Rattle.trace_replay.specs.declared.fault.TraceFault.TheVariants.{NoMemory, At}
-use Rattle.trace_replay.specs.Lines.{has_form}
+use Rattle.trace_replay.specs.Lines.{has_form, lines_of}
 use Rattle.trace_replay.specs.LegalTrace.{HasSizes, IsFirstForbidden}
 use Rattle.trace_replay.specs.Trace.{lists_of}
 use Rattle.trace_replay.specs.TraceText.{header_line, start_line, edge_line, end_line, trace_text}
@@ -75,6 +76,13 @@ pub record IsIllegal (block : FlatBlock) (bytes : List ℕ) (line : ℕ) : Type 
   pub text : bytes ≡ trace_text start edges
   pub first : IsFirstForbidden block start edges edge
   pub number : line ≡ edge + 3
+
+-- a text that is refused as a trace of the block, for this reason at this line, whatever its size
+abbrev pub IsRefusedAt : FlatBlock → List ℕ → TraceCode → ℕ → Type 0
+IsRefusedAt block bytes code.TraceLine line = IsWrongLine (lines_of bytes) line
+IsRefusedAt block bytes code.TraceName line = IsWrongName (lines_of bytes) line
+IsRefusedAt block bytes code.TraceIllegal line = IsIllegal block bytes line
+IsRefusedAt block bytes code.TraceSize line = ⊥
 
 -- a fact, where memory isn't wanted
 abbrev pub UnlessWanting : {A : Type 0} → Result A TraceFault → Type 0 → Type 0

@@ -1,6 +1,7 @@
 use Rattle.prove_top.specs.declared.report.Status.TheVariants as status
-use Rattle.prove_top.proofs.ClauseLemmas.{added-by, added-calls, last_failed, fault_report, fault_without, report_prefix, no_memory_bytes, status-iff, unknown-status, agrees-status, differs-status}
-use Rattle.prove_top.proofs.RefusalLemmas.{short-put, words-put, form-put}
+use Rattle.prove_top.proofs.ClauseLemmas.{added-by, added-calls, last_failed, fault_report, fault_without, report_prefix, no_memory_bytes, status-iff, unknown-status, agrees-status, usage-report}
+use Rattle.prove_top.specs.declared.report.Refusal.TheVariants.{NoFile, NotYet}
+use Rattle.prove_top.proofs.RefusalLemmas.{long-iff, refusal-iff, refused-report, replay-iff, sampled-iff, wrong-iff}
 use Rattle.prove_top.proofs.RefutedLemmas.{refuted-put, written-put}
 use Rattle.prove_top.proofs.StoreLemmas.{calls-stop, file-ends, files-kept, others-kept, store-after, kept-of}
 use Rattle.prove_top.proofs.top.run_tool.Goals as goal
@@ -45,25 +46,37 @@ pub returns-clause-no_memory_bytes : goal.returns-clause-no_memory_bytes
 returns-clause-no_memory_bytes g c = added-by _ _ _ _ _ _ (λ calls are runs. no_memory_bytes _ _ _ _ _ _ _ calls runs.ran) c.run-status.ensures.calls
 
 pub returns-clause-simulated_iff : goal.returns-clause-simulated_iff
-returns-clause-simulated_iff g c = status-iff _ _ status.Unknown c.args.words.now _ _ _ _ (unknown-status c.args.words.now) c.run-status.ensures.answer
+returns-clause-simulated_iff g c = status-iff _ _ status.Unknown c.args.words.now _ _ _ _ (unknown-status c.one_reading.ensures c.args.words.now) c.run-status.ensures.answer
 
 pub returns-clause-agrees_iff : goal.returns-clause-agrees_iff
-returns-clause-agrees_iff g c = status-iff _ _ status.Yes c.args.words.now _ _ _ _ (agrees-status c.args.words.now) c.run-status.ensures.answer
+returns-clause-agrees_iff g c = status-iff _ _ status.Yes c.args.words.now _ _ _ _ (agrees-status c.one_reading.ensures c.args.words.now) c.run-status.ensures.answer
 
-pub returns-clause-refuted_and_differs_iff : goal.returns-clause-refuted_and_differs_iff
-returns-clause-refuted_and_differs_iff g c = status-iff _ _ status.No c.args.words.now _ _ _ _ (differs-status c.args.words.now) c.run-status.ensures.answer
+pub returns-clause-refuted_sampled_iff : goal.returns-clause-refuted_sampled_iff
+returns-clause-refuted_sampled_iff g c = sampled-iff c.one_reading.ensures _ _ _ c.args.words.now _ _ c.run-status.ensures.answer
+
+pub returns-clause-differs_iff : goal.returns-clause-differs_iff
+returns-clause-differs_iff g c = replay-iff c.one_reading.ensures _ _ _ c.args.words.now _ _ c.run-status.ensures.answer
+
+pub returns-clause-usage_report : goal.returns-clause-usage_report
+returns-clause-usage_report g c = usage-report _ _ c.args.words.now _ _ _ _ _ _ _ c.run-status.ensures.usage c.run-status.ensures.calls
 
 pub returns-clause-refuted_written : goal.returns-clause-refuted_written
 returns-clause-refuted_written g c = written-put _ _ _ c.args.words.now _ _ c.run-status.ensures.answer
 
 pub returns-clause-refuted_replays : goal.returns-clause-refuted_replays
-returns-clause-refuted_replays g c = refuted-put _ _ _ c.args.words.now _ _ c.run-status.ensures.answer
+returns-clause-refuted_replays g c = refuted-put c.run_ends_there.ensures _ _ _ c.args.words.now _ _ c.run-status.ensures.answer
 
-pub returns-clause-no_file_and_long_file : goal.returns-clause-no_file_and_long_file
-returns-clause-no_file_and_long_file g c = short-put _ _ c.args.words.now _ _ _ c.run-status.ensures.answer
+pub returns-clause-no_file_iff : goal.returns-clause-no_file_iff
+returns-clause-no_file_iff g c = refusal-iff c.one_reading.ensures _ c.args.words.now _ _ _ _ c.run-status.ensures.answer NoFile
 
-pub returns-clause-not_yet_words : goal.returns-clause-not_yet_words
-returns-clause-not_yet_words g c = words-put _ _ c.args.words.now _ _ _ c.run-status.ensures.answer
+pub returns-clause-long_file_iff : goal.returns-clause-long_file_iff
+returns-clause-long_file_iff g c = long-iff c.one_reading.ensures _ c.args.words.now _ _ _ _ c.run-status.ensures.answer
 
-pub returns-clause-not_yet_file : goal.returns-clause-not_yet_file
-returns-clause-not_yet_file g c = form-put _ _ c.args.words.now _ _ _ c.run-status.ensures.answer
+pub returns-clause-not_yet_iff : goal.returns-clause-not_yet_iff
+returns-clause-not_yet_iff g c = refusal-iff c.one_reading.ensures _ c.args.words.now _ _ _ _ c.run-status.ensures.answer NotYet
+
+pub returns-clause-refused_iff : goal.returns-clause-refused_iff
+returns-clause-refused_iff g c = wrong-iff c.one_reading.ensures _ c.args.words.now _ _ _ _ c.run-status.ensures.answer
+
+pub returns-clause-refused_report : goal.returns-clause-refused_report
+returns-clause-refused_report g c = refused-report c.one_reading.ensures _ c.args.words.now _ _ _ _ c.run-status.ensures.answer
