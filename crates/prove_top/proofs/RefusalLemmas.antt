@@ -339,9 +339,9 @@ module _ (law : OneReading) (told : Option Files) (words : List (List ℕ)) (old
       → PutsAnswer files words old new after ended → (new ≡ Some (put ++ text_of due)) ↔ P
   text-iff files put due P is to from only refused puts = (
     λ h.
-    let same = only puts.report puts.answer (same-text put (text_of puts.report) (text_of due) (sym (some-put put files is puts) ∙ h)) in
-    let Q : Report → Type 0 = λ r. IsRefusal files words r in
-    from (subst Q same ((facts files words puts.report puts.answer).refused (ap status_of same ∙ refused))),
+        let same = only puts.report puts.answer (same-text put (text_of puts.report) (text_of due) (sym (some-put put files is puts) ∙ h)) in
+        let Q : Report → Type 0 = λ r. IsRefusal files words r in
+        from (subst Q same ((facts files words puts.report puts.answer).refused (ap status_of same ∙ refused))),
     λ p. some-put put files is puts ∙ ap (λ r. Some (put ++ text_of r)) (refusal-due law files words due puts.report (to p) puts.answer),
   )
 

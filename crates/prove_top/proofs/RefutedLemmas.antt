@@ -1,5 +1,5 @@
 -- The trace after the line of a difference: its run ends with that difference.
-use Rattle.std.proofs.Common.{◌≡◌, ℕ, zero, suc, ◌+◌, ◌*◌, ◌^◌, ◌<◌, Bool, List, [], ◌∷◌, ◌++◌, length, take, drop, Option, Some, None, Result, Ok, Err, IfSome, IsSome, IsSomeAnd, refl, ◌∙◌, ap, subst, arith, length-append, append-nil}
+use Rattle.std.proofs.Common.{◌≡◌, ℕ, zero, suc, ◌+◌, ◌*◌, ◌^◌, ◌<◌, Bool, List, [], ◌∷◌, ◌++◌, length, take, drop, Option, Some, None, Result, Ok, Err, IfSome, IsSome, IsSomeAnd, refl, sym, ◌∙◌, ap, subst, arith, length-append, append-nil}
 use Rattle.std.specs.List.{All}
 use Rattle.std.specs.Option.{option_and_then}
 use Rattle.std.proofs.lemmas.Nat.{pow_pos}
@@ -11,9 +11,10 @@ use Rattle.tool_edge.specs.Files.{Files}
 use Rattle.tool_edge.specs.Written.{after_put}
 use Rattle.trace_replay.specs.declared.block.Block.{Block}
 use Rattle.trace_replay.specs.declared.joint.Difference.{Difference}
-use Rattle.trace_replay.specs.Joint.{start_of}
+use Rattle.apb_rules.specs.declared.wires.BusWires.{BusWires}
+use Rattle.trace_replay.specs.Joint.{first_difference, start_of}
 use Rattle.trace_replay.specs.Laws.{EndsThere, RunEndsThere}
-use Rattle.trace_replay.specs.LegalTrace.{FitsPins}
+use Rattle.trace_replay.specs.LegalTrace.{FitsPins, IsLegalTrace}
 use Rattle.trace_replay.specs.Trace.{edges_from}
 use Rattle.prove_top.specs.declared.gather.Kind.{Kind}
 use Rattle.prove_top.specs.declared.gather.Shortfall.{Shortfall}
@@ -67,6 +68,16 @@ unfolding sampled_wires
 sampled-ends law block seed edge difference found =
     law block (sampled_register seed) (choices_to (sample_bits seed) EDGES) edge difference (register-small seed)
     (let long = choices-length (sample_bits seed) EDGES in omega (arith, long)) (choices-fit (sample_bits seed) EDGES) found
+
+pub cut-legal : (law : RunEndsThere) (block : Block) (seed register : ℕ) (run : List BusWires) (edge : ℕ) (difference : Difference) → register ≡ sampled_register seed → run ≡ sampled_wires block seed
+    → first_difference block register run ≡ Some (edge, difference)
+    → IsLegalTrace block (low_bits 8 register) (edges_from block (start_of block register) (take (edge + 1) run))
+cut-legal law block seed register run edge difference begins wires found =
+    let P : ℕ → Type 0 = λ r. IsLegalTrace block (low_bits 8 r) (edges_from block (start_of block r) (take (edge + 1) run)) in
+    let Q : List BusWires → Type 0 = λ ws. IsLegalTrace block (low_bits 8 (sampled_register seed)) (edges_from block (start_of block (sampled_register seed)) (take (edge + 1) ws)) in
+    let first : sampled block seed ≡ Some (edge, difference) =
+    ap (λ r. first_difference block r (sampled_wires block seed)) (sym begins) ∙ ap (first_difference block register) (sym wires) ∙ found in
+    subst P (sym begins) (subst Q (sym wires) (sampled-ends law block seed edge difference first).legal)
 
 -- the report of a sampled run
 sampled-of-block : (task : Task) (seed : ℕ) (made : Result Block Kind) (report : Report) (block : Block) (other : ℕ) → report ≡ sample_report task seed made

@@ -6,7 +6,9 @@ ghost use Rattle.tool_edge.specs.Causes.{Rose};
 ghost use Rattle.prove_top.specs.Words.{command_of, trace_file};
 ghost use Rattle.prove_top.specs.Gather.{contents, names_of};
 ghost use Rattle.trace_replay.specs.LegalTrace.{IsLegalTrace};
-ghost use Rattle.trace_replay.specs.Trace.{lists_of, trace_difference};
+ghost use Rattle.bit_base.specs.Numbers.{low_bits};
+ghost use Rattle.trace_replay.specs.Joint.{start_of};
+ghost use Rattle.trace_replay.specs.Trace.{edges_from, lists_of, trace_difference};
 ghost use Rattle.prove_top.specs.Reads.{ReadsOnly};
 ghost use Rattle.prove_top.specs.Answer.{block_wanted, wanted_of, short_report, trace_name, name_of, block_of, names_asked, sample_report, wrong_report, trace_report, Replays, ReplayAnswer, TextsAnswer, TaskAnswer, Answers, UnlessFault, IfFault, ComesAfter, IsUsage, IsAnswer, run_report};
 
@@ -24,9 +26,10 @@ use tool_edge::depot::Depot;
 use trace_replay::block::Block;
 use trace_replay::fault::{TraceCode, TraceFault};
 use trace_replay::joint::first_difference;
+use trace_replay::laws::run_ends_there;
 use trace_replay::read::read_trace;
 use trace_replay::replay::replay;
-use trace_replay::text::trace_text;
+use trace_replay::text::write_trace;
 use trace_replay::trace::{Trace, trace_of_run};
 
 /// How many bytes a description, a ports file and a Verilog file may have.
@@ -148,11 +151,12 @@ fn block_of(
 
 /// The text of the trace of a run, up to this edge.
 fn cut_trace(alloc: Global, block: &Block, run: &Run, edge: usize) -> Result<Text, AllocError>
-    requires { edge < length run.now.wires.items }
+    requires inside { edge < length run.now.wires.items }
+    requires legal { IsLegalTrace block.now (low_bits 8 run.now.register) (edges_from block.now (start_of block.now run.now.register) (take (edge + 1) run.now.wires.items)) }
     ensures { IfOk result (λ text. text ≡ cut_trace block.now run.now.register (take (edge + 1) run.now.wires.items)) }
 {
     let trace = trace_of_run(alloc, block, run.register, &run.wires[..edge + 1])?;
-    let text = trace_text(alloc, &trace)?;
+    let text = write_trace(alloc, block, &trace)?;
     Ok(Text::from(text))
 }
 
@@ -177,6 +181,7 @@ fn run_report(
     ensures report { IfOk result (λ report. report ≡ run_report block.now seed file.now) }
     ensures kind { IfOk result (IsAnswer file.now) }
 {
+    run_ends_there();
     let run = sampled_run(alloc, block, seed)?;
     match first_difference(alloc, block, run.register, &run.wires)? {
         Some((edge, difference)) => {

@@ -63,7 +63,7 @@ fn edge_line(alloc: Global, bits: &[bool]) -> Result<Vec<u8>, AllocError>
 
 /// The text of this trace, whose edges have the bits of all inputs.
 #[tactic(auto, unfolding(crate::specs::TraceText::trace_text))]
-pub fn trace_text(alloc: Global, trace: &Trace) -> Result<Vec<u8>, AllocError>
+fn trace_text(alloc: Global, trace: &Trace) -> Result<Vec<u8>, AllocError>
     requires { HasAllInputs (lists_of trace.now.edges.items) }
     ensures { IfOk result (λ text. text.items ≡ trace_text trace.now.start.items (lists_of trace.now.edges.items)) }
 {
