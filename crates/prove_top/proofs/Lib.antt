@@ -15,3 +15,4 @@ mod RefutedLemmas
 mod TextLemmas
 mod RefusalLemmas
 mod StoreLemmas
+mod ReplayLines

@@ -252,7 +252,7 @@ module _ (files : Files) (words : List (List ℕ)) where
   replayed-asked None report block bytes name h is named = cc
   replayed-asked (Some task) report block bytes name h is named = replayed-files task (gathered files (wanted_of task)) report block bytes name h is named
 
-  replayed-command : (command : Option Command) (report : Report) (block : Block) (bytes name : List ℕ) → CommandAnswer files command report
+  pub replayed-command : (command : Option Command) (report : Report) (block : Block) (bytes name : List ℕ) → CommandAnswer files command report
       → of_task replay_block files (option_and_then task_of command) ≡ Some (block, bytes)
       → option_and_then (λ t. trace_of_work t.work) (option_and_then task_of command) ≡ Some name → Replays block name bytes report
   replayed-command None report block bytes name h is named = cc
@@ -411,7 +411,7 @@ no-replay-files : (task : Task) (got : Result (List (List ℕ)) Shortfall) → t
 no-replay-files task (Err short) none = refl
 no-replay-files task (Ok texts) none = no-replay-work task.work texts none
 
-no-replay : (files : Files) (task : Option Task) → option_and_then (λ t. trace_of_work t.work) task ≡ None → of_task replay_block files task ≡ None
+pub no-replay : (files : Files) (task : Option Task) → option_and_then (λ t. trace_of_work t.work) task ≡ None → of_task replay_block files task ≡ None
 no-replay files None none = refl
 no-replay files (Some task) none = no-replay-files task (gathered files (wanted_of task)) none
 
@@ -441,7 +441,7 @@ no-replay-differs : (files : Files) (words : List (List ℕ)) → replayed words
 no-replay-differs files words none h =
     none-and (asked_replay files words) (λ asked. (first : ℕ × Difference) × ((count : ℕ) × ReplaysTo asked.0 asked.1 (Some first) count)) (no-replay files (task_asked words) none) h
 
-no-sample-differs : (files : Files) (words : List (List ℕ)) → IsSome (replayed words) → SampledDiffers files words → ⊥
+pub no-sample-differs : (files : Files) (words : List (List ℕ)) → IsSome (replayed words) → SampledDiffers files words → ⊥
 no-sample-differs files words some h = none-and (asked_block files words) (λ asked. IsSome (sampled asked.0 asked.1)) (no-sample files (task_asked words) some) h
 
 module _ (law : OneReading) (told after : Option Files) (ended : Status) (words : List (List ℕ)) (old new : Option (List ℕ))

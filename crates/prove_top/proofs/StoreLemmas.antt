@@ -164,7 +164,7 @@ module _ (edge : ℕ) (what : Difference) (trace : List ℕ) (to : Option (List 
   cut-of-command files (Some command) h = cut-of-asked files (task_of command) h
 
 -- the trace that a report is to store
-some-and : {A : Type 0} (o : Option A) (P : A → Type 0) → IsSomeAnd o P → (a : A) × (o ≡ Some a) × P a
+pub some-and : {A : Type 0} (o : Option A) (P : A → Type 0) → IsSomeAnd o P → (a : A) × (o ≡ Some a) × P a
 some-and None P h = absurd h
 some-and (Some a) P h = (a, refl, h)
 

@@ -8,7 +8,7 @@ use Rattle.tool_edge.specs.declared.depot.DepotCall.{DepotCall}
 use Rattle.tool_edge.specs.declared.depot.DepotAnswer.TheVariants as answered
 use Rattle.trace_replay.specs.declared.block.Block.{Block}
 use Rattle.prove_top.specs.declared.report.Report.{Report}
-use Rattle.prove_top.specs.declared.report.Report.TheVariants.{Fault}
+use Rattle.prove_top.specs.declared.report.Report.TheVariants.{Agrees, Differs, Fault}
 use Rattle.prove_top.specs.declared.report.Status.{Status}
 use Rattle.prove_top.specs.declared.report.Status.TheVariants as status
 use Rattle.prove_top.specs.declared.report.TheConstants.{MEMORY_LINE}
@@ -116,3 +116,22 @@ pub record RefutedReplays (files : Files) (words : List (List ℕ)) (after : Opt
   pub difference : Difference
   pub ends : EndsThere block start edges edge difference
   pub written : WritesTrace (trace_file words) (refuted_line edge difference) (trace_text start edges) files after old new
+
+-- the line of a trace's run is put: that of its first difference, or how many edges it has where it has none
+pub record PutsDiffers (files : Files) (words : List (List ℕ)) (old new : Option (List ℕ)) : Type 0 where
+  pub block : Block
+  pub text : List ℕ
+  pub asked : asked_replay files words ≡ Some (block, text)
+  pub edge : ℕ
+  pub difference : Difference
+  pub count : ℕ
+  pub run : ReplaysTo block text (Some (edge, difference)) count
+  pub put : new ≡ after_put old (text_of (Differs edge difference))
+
+pub record PutsAgrees (files : Files) (words : List (List ℕ)) (old new : Option (List ℕ)) : Type 0 where
+  pub block : Block
+  pub text : List ℕ
+  pub asked : asked_replay files words ≡ Some (block, text)
+  pub edges : ℕ
+  pub run : ReplaysTo block text None edges
+  pub put : new ≡ after_put old (text_of (Agrees edges))

@@ -4,7 +4,7 @@ ghost use Rattle.std.specs.Prelude.{◌≡◌, ◌≢◌, ◌^◌, ◌<◌, ◌�
 ghost use Rattle.tool_edge.specs.Causes.{Rose};
 ghost use Rattle.tool_edge.specs.Written.{after_put, AppendsPart};
 ghost use Rattle.prove_top.specs.Answer.{IfFault, IsUsage, TellsFailed, UnlessFault, names_asked, size_refusal};
-ghost use Rattle.prove_top.specs.Clauses.{Added, FilesEnd, IsFaultOrMemory, OthersKept, PutsFault, PutsPart, PutsPartThenMemory, RefutedReplays, RefutedWritten, ReplayAgrees, ReplayDiffers, SampledAgrees, SampledDiffers, StoreAfterReads, WholeButTheLast};
+ghost use Rattle.prove_top.specs.Clauses.{Added, FilesEnd, IsFaultOrMemory, OthersKept, PutsAgrees, PutsDiffers, PutsFault, PutsPart, PutsPartThenMemory, RefutedReplays, RefutedWritten, ReplayAgrees, ReplayDiffers, SampledAgrees, SampledDiffers, StoreAfterReads, WholeButTheLast};
 ghost use Rattle.prove_top.specs.Ends.{Ends, EndsPut, PutsAnswer, Runs, UnlessFailed, UnlessStores};
 ghost use Rattle.prove_top.specs.Reads.{AreCalls, Called, failed_of};
 ghost use Rattle.prove_top.specs.Store.{Kept, Settles};
@@ -149,6 +149,10 @@ pub fn run_tool<D: Depot, S: Sink>(
     ensures agrees_iff { IfSome (D.files depot.old) (λ files. UnlessFailed result.status ((result.status ≡ Status.Yes) ↔ ReplayAgrees files words.now)) }
     ensures refuted_sampled_iff { IfSome (D.files depot.old) (λ files. replayed words.now ≡ None → UnlessFailed result.status ((result.status ≡ Status.No) ↔ SampledDiffers files words.now)) }
     ensures differs_iff { IfSome (D.files depot.old) (λ files. IsSome (replayed words.now) → UnlessFailed result.status ((result.status ≡ Status.No) ↔ ReplayDiffers files words.now)) }
+
+    // The line of `replay` has the edge and the difference, or the number of edges.
+    ensures differs_report { IfSome (D.files depot.old) (λ files. result.status ≡ Status.No → IsSome (replayed words.now) → PutsDiffers files words.now (S.written out.old) (S.written out.new)) }
+    ensures agrees_report { IfSome (D.files depot.old) (λ files. result.status ≡ Status.Yes → PutsAgrees files words.now (S.written out.old) (S.written out.new)) }
 
     // The usage line alone is put for words outside the grammar, with no call.
     ensures usage_report { result.status ≡ Status.Usage → (S.written out.new ≡ after_put (S.written out.old) (text_of Report.Usage)) × (D.calls depot.new ≡ D.calls depot.old) }

@@ -3,6 +3,7 @@ use Rattle.prove_top.proofs.ClauseLemmas.{added-by, added-calls, last_failed, fa
 use Rattle.prove_top.specs.declared.report.Refusal.TheVariants.{NoFile, NotYet}
 use Rattle.prove_top.proofs.RefusalLemmas.{long-iff, refusal-iff, refused-report, replay-iff, sampled-iff, wrong-iff}
 use Rattle.prove_top.proofs.RefutedLemmas.{refuted-put, written-put}
+use Rattle.prove_top.proofs.ReplayLines.{agrees-report, differs-report}
 use Rattle.prove_top.proofs.StoreLemmas.{calls-stop, file-ends, files-kept, others-kept, store-after, kept-of}
 use Rattle.prove_top.proofs.top.run_tool.Goals as goal
 
@@ -56,6 +57,12 @@ returns-clause-refuted_sampled_iff g c = sampled-iff c.one_reading.ensures _ _ _
 
 pub returns-clause-differs_iff : goal.returns-clause-differs_iff
 returns-clause-differs_iff g c = replay-iff c.one_reading.ensures _ _ _ c.args.words.now _ _ c.run-status.ensures.answer
+
+pub returns-clause-differs_report : goal.returns-clause-differs_report
+returns-clause-differs_report g c = differs-report c.one_reading.ensures c.args.words.now _ _ _ _ _ c.run-status.ensures.answer
+
+pub returns-clause-agrees_report : goal.returns-clause-agrees_report
+returns-clause-agrees_report g c = agrees-report c.one_reading.ensures c.args.words.now _ _ _ _ _ c.run-status.ensures.answer
 
 pub returns-clause-usage_report : goal.returns-clause-usage_report
 returns-clause-usage_report g c = usage-report _ _ c.args.words.now _ _ _ _ _ _ _ c.run-status.ensures.usage c.run-status.ensures.calls
