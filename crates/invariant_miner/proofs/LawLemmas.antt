@@ -20,7 +20,7 @@ use Rattle.invariant_miner.proofs.KeptLemmas.{filter_within, filter_get}
 use Rattle.invariant_miner.proofs.ThinLemmas.{closed_of}
 
 -- each set is met at the start, since `live` is 0 there
-starts_at_zero : (latches : List Latch) → StartsAtZero latches → ((l : Latch) × ((slice_get latches 0 ≡ Some l) × (l.start ≡ start.Zero)))
+pub starts_at_zero : (latches : List Latch) → StartsAtZero latches → ((l : Latch) × ((slice_get latches 0 ≡ Some l) × (l.start ≡ start.Zero)))
 starts_at_zero [] h = absurd (let e : ⊥ = cc in e)
 starts_at_zero (l ∷ ls) h = let e : l.start ≡ start.Zero = cc in (l, (refl, e))
 
@@ -41,7 +41,7 @@ get_right : {X : Type 0} (a b : List X) (i : ℕ) (x : X) → slice_get b i ≡ 
 get_right [] b i x is = (i, is)
 get_right (y ∷ a) b i x is = let r = get_right a b i x is in (suc r.0, r.1)
 
-get_either : {X : Type 0} (a b : List X) (i : ℕ) (x : X) → slice_get (a ++ b) i ≡ Some x → ((slice_get a i ≡ Some x) ⊎ ((j : ℕ) × (slice_get b j ≡ Some x)))
+pub get_either : {X : Type 0} (a b : List X) (i : ℕ) (x : X) → slice_get (a ++ b) i ≡ Some x → ((slice_get a i ≡ Some x) ⊎ ((j : ℕ) × (slice_get b j ≡ Some x)))
 get_either [] b i x is = inr (i, is)
 get_either (y ∷ a) b zero x is = inl is
 get_either (y ∷ a) b (suc i) x is = get_either a b i x is

@@ -4,7 +4,10 @@ pub mod LaneLemmas
 pub mod SampleLemmas
 pub mod StateLemmas
 pub mod RowLemmas
+pub mod ColumnLemmas
 pub mod ListedLemmas
 pub mod KeptLemmas
 pub mod ThinLemmas
 pub mod LawLemmas
+pub mod AskableLemmas
+pub mod FreshLemmas

@@ -4,11 +4,12 @@ ghost use Rattle.std.specs.Prelude.{◌≡◌, ◌≢◌, ℕ, ◌+◌, ◌-◌,
 ghost use Rattle.std.specs.List.{list_all, flat_map, range_with_len};
 ghost use Rattle.std.specs.List.Sorted.{IsStrictlyIncreasing};
 ghost use Rattle.invariant_miner.specs.Samples.{in_all_rows, in_all_samples};
+ghost use Rattle.invariant_miner.specs.Thinned.{IsAskable};
+ghost use Rattle.invariant_miner.specs.Columns.{AreColumns};
 ghost use Rattle.invariant_miner.specs.Candidates.{same_literal, has_literal, same_literals, is_there, with_new, constant_clauses, relation_clauses, latch_clauses, pair_clause, pair_clauses, control_clauses, candidates_by, candidates};
 
-use crate::rows::{
-    always_holds, least_equal, least_opposite, negated, no_samples, one_holds, plain,
-};
+use crate::columns::{add_column, least_equal, least_opposite, no_columns};
+use crate::rows::{always_holds, negated, no_samples, one_holds, plain};
 use crate::samples::sample_rows;
 use gate_graph::Circuit;
 use std::alloc::{AllocError, Global};
@@ -62,15 +63,31 @@ fn add(list: &mut Vec<LatchClause>, clause: LatchClause) -> Result<(), AllocErro
     Ok(())
 }
 
-/// Adds the clause of one literal.
-fn add_one(alloc: Global, list: &mut Vec<LatchClause>, x: LatchLiteral) -> Result<(), AllocError>
-    ensures { OnOk result (list.new.items ≡ with_new list.old.items ((x ∷ []) ∷ [])) }
+/// Adds a clause of one literal.
+fn push_one(alloc: Global, list: &mut Vec<LatchClause>, x: LatchLiteral) -> Result<(), AllocError>
+    ensures { OnOk result (list.new.items ≡ list.old.items ++ (x ∷ []) ∷ []) }
 {
-    let clause = LatchClause::one(alloc, x)?;
-    add(list, clause)
+    list.push(LatchClause::one(alloc, x)?)?;
+    Ok(())
 }
 
-/// Adds the clause of two literals.
+/// Adds two clauses of two literals each.
+fn push_both(
+    alloc: Global,
+    list: &mut Vec<LatchClause>,
+    first: (LatchLiteral, LatchLiteral),
+    second: (LatchLiteral, LatchLiteral),
+) -> Result<(), AllocError>
+    requires first { first.0.latch ≢ first.1.latch }
+    requires second { second.0.latch ≢ second.1.latch }
+    ensures { OnOk result (list.new.items ≡ list.old.items ++ ((first.0 ∷ first.1 ∷ []) ∷ (second.0 ∷ second.1 ∷ []) ∷ [])) }
+{
+    list.push(LatchClause::two(alloc, first.0, first.1)?)?;
+    list.push(LatchClause::two(alloc, second.0, second.1)?)?;
+    Ok(())
+}
+
+/// Adds the clause of two literals, unless it is there already.
 fn add_two(
     alloc: Global,
     list: &mut Vec<LatchClause>,
@@ -91,13 +108,13 @@ fn add_constant(
     rows: &[Vec<u64>],
     n: u32,
 ) -> Result<(), AllocError>
-    ensures { OnOk result (list.new.items ≡ with_new list.old.items (constant_clauses (in_all_rows (map (λ v. v.items) rows.now)) n)) }
+    ensures { OnOk result (list.new.items ≡ list.old.items ++ constant_clauses (in_all_rows (map (λ v. v.items) rows.now)) n) }
 {
     if always_holds(rows, plain(n)) {
-        return add_one(alloc, list, plain(n));
+        return push_one(alloc, list, plain(n));
     }
     if always_holds(rows, negated(n)) {
-        return add_one(alloc, list, negated(n));
+        return push_one(alloc, list, negated(n));
     }
     Ok(())
 }
@@ -108,17 +125,20 @@ fn add_relation(
     alloc: Global,
     list: &mut Vec<LatchClause>,
     rows: &[Vec<u64>],
+    columns: &[Vec<u32>],
     n: u32,
 ) -> Result<(), AllocError>
-    ensures { OnOk result (list.new.items ≡ with_new list.old.items (relation_clauses (in_all_rows (map (λ v. v.items) rows.now)) n)) }
+    requires some { 0 < length columns.now }
+    requires columns { AreColumns (map (λ v. v.items) rows.now) (length columns.now) n (map (λ v. v.items) columns.now) }
+    ensures { OnOk result (list.new.items ≡ list.old.items ++ relation_clauses (in_all_rows (map (λ v. v.items) rows.now)) n) }
 {
-    if let Some(m) = least_equal(rows, n) {
-        add_two(alloc, list, plain(m), negated(n))?;
-        return add_two(alloc, list, negated(m), plain(n));
+    if let Some(m) = least_equal(rows, columns, n) {
+        let both = (plain(m), negated(n));
+        return push_both(alloc, list, both, (negated(m), plain(n)));
     }
-    if let Some(m) = least_opposite(rows, n) {
-        add_two(alloc, list, plain(m), plain(n))?;
-        return add_two(alloc, list, negated(m), negated(n));
+    if let Some(m) = least_opposite(rows, columns, n) {
+        let both = (plain(m), plain(n));
+        return push_both(alloc, list, both, (negated(m), negated(n)));
     }
     Ok(())
 }
@@ -200,12 +220,15 @@ fn add_latch(
     alloc: Global,
     list: &mut Vec<LatchClause>,
     rows: &[Vec<u64>],
+    columns: &[Vec<u32>],
     n: u32,
 ) -> Result<(), AllocError>
-    ensures { OnOk result (list.new.items ≡ with_new list.old.items (latch_clauses (in_all_rows (map (λ v. v.items) rows.now)) n)) }
+    requires some { 0 < length columns.now }
+    requires columns { AreColumns (map (λ v. v.items) rows.now) (length columns.now) n (map (λ v. v.items) columns.now) }
+    ensures { OnOk result (list.new.items ≡ list.old.items ++ latch_clauses (in_all_rows (map (λ v. v.items) rows.now)) n) }
 {
     add_constant(alloc, list, rows, n)?;
-    add_relation(alloc, list, rows, n)?;
+    add_relation(alloc, list, rows, columns, n)?;
     Ok(())
 }
 
@@ -216,10 +239,12 @@ fn add_latches(
     rows: &[Vec<u64>],
     latches: u32,
 ) -> Result<(), AllocError>
-    ensures { OnOk result (list.new.items ≡ with_new list.old.items (flat_map (latch_clauses (in_all_rows (map (λ v. v.items) rows.now))) (range_with_len 1 (latches - 1)))) }
+    ensures { OnOk result (list.new.items ≡ list.old.items ++ (flat_map (latch_clauses (in_all_rows (map (λ v. v.items) rows.now))) (range_with_len 1 (latches - 1)))) }
 {
+    let mut columns = no_columns(alloc, latches as usize + 1)?;
     for n in 1..latches {
-        add_latch(alloc, list, rows, n)?;
+        add_latch(alloc, list, rows, columns.as_slice(), n)?;
+        add_column(&mut columns, rows, n)?;
     }
     Ok(())
 }
@@ -250,7 +275,8 @@ pub fn candidates(
     circuit: &Circuit,
     seed: u64,
 ) -> Result<Vec<LatchClause>, AllocError>
-    ensures { IfOk result (λ list. list.items ≡ candidates circuit.now seed) }
+    ensures list { IfOk result (λ list. list.items ≡ candidates circuit.now seed) }
+    ensures askable { IfOk result (λ list. IsAskable circuit.now list.items) }
 {
     let rows = sample_rows(alloc, circuit, seed)?;
     let latches = circuit.latches.len() as u32;

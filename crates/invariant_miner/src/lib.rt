@@ -4,6 +4,7 @@
 
 pub mod asked;
 pub mod candidates;
+mod columns;
 mod draws;
 #[cfg(test)]
 mod kept_tests;

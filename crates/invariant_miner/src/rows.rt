@@ -74,43 +74,17 @@ pub(crate) fn always_holds(rows: &[Vec<u64>], x: LatchLiteral) -> bool
 }
 
 /// Whether latches `n` and `m` are equal in each sample state.
-fn always_equal(rows: &[Vec<u64>], n: u32, m: u32) -> bool
+pub(crate) fn always_equal(rows: &[Vec<u64>], n: u32, m: u32) -> bool
     ensures { result ≡ are_equal (in_all_rows (map (λ v. v.items) rows.now)) n m }
 {
     one_holds(rows, plain(m), negated(n)) && one_holds(rows, negated(m), plain(n))
 }
 
 /// Whether latches `n` and `m` are opposite in each sample state.
-fn always_opposite(rows: &[Vec<u64>], n: u32, m: u32) -> bool
+pub(crate) fn always_opposite(rows: &[Vec<u64>], n: u32, m: u32) -> bool
     ensures { result ≡ are_opposite (in_all_rows (map (λ v. v.items) rows.now)) n m }
 {
     one_holds(rows, plain(m), plain(n)) && one_holds(rows, negated(m), negated(n))
-}
-
-/// The least latch from 1 to `n` - 1 that equals latch `n` in each sample state.
-pub(crate) fn least_equal(rows: &[Vec<u64>], n: u32) -> Option<u32>
-    ensures least { result ≡ least_from (are_equal (in_all_rows (map (λ v. v.items) rows.now)) n) 1 (n - 1) }
-    ensures before { IfSome result (λ m. m < n) }
-{
-    for m in 1..n {
-        if always_equal(rows, n, m) {
-            return Some(m);
-        }
-    }
-    None
-}
-
-/// The least latch from 1 to `n` - 1 that is opposite to latch `n` in each sample state.
-pub(crate) fn least_opposite(rows: &[Vec<u64>], n: u32) -> Option<u32>
-    ensures least { result ≡ least_from (are_opposite (in_all_rows (map (λ v. v.items) rows.now)) n) 1 (n - 1) }
-    ensures before { IfSome result (λ m. m < n) }
-{
-    for m in 1..n {
-        if always_opposite(rows, n, m) {
-            return Some(m);
-        }
-    }
-    None
 }
 
 /// Whether there is no sample state.

@@ -9,6 +9,7 @@ use crate::decide::decide;
 use crate::query::Query;
 use crate::verdict::Verdict;
 use gate_graph::{Circuit, Graph, Latch, Node, Start, Wire};
+use invariant_miner::candidates::candidates;
 use invariant_miner::thin::thin;
 use invariant_miner::{InductiveSet, Thinned};
 use std::alloc::{AllocError, Global};
@@ -162,6 +163,25 @@ fn circuit_of(alloc: Global, parts: Parts) -> Result<Option<Circuit>, AllocError
         addresses: Vec::new(alloc),
         control: Vec::new(alloc),
     }))
+}
+
+/// The circuit with latches 1 and 2 as control latches, if it has more than these.
+fn with_control(alloc: Global, circuit: Circuit) -> Result<Circuit, AllocError> {
+    if circuit.latches.len() <= 2 {
+        return Ok(circuit);
+    }
+    let mut control = Vec::new(alloc);
+    control.extend_from_slice(&[1, 2])?;
+    Ok(Circuit {
+        graph: circuit.graph,
+        latches: circuit.latches,
+        inputs: circuit.inputs,
+        bad: circuit.bad,
+        address_first: circuit.address_first,
+        address_bits: circuit.address_bits,
+        addresses: circuit.addresses,
+        control,
+    })
 }
 
 /// What a verdict should be: safe with this k, a bad or loose run of so many edges, or a budget
@@ -328,6 +348,114 @@ static PARITY: Parts = Parts {
     bad: 39,
 };
 
+/// Two registers, latches 1 and 2, take one input where another is 1, else they keep their values; a
+/// third input asks whether they differ, which is bad. Before latch 0 is 1 they take 0.
+static REGISTERS: Parts = Parts {
+    latches: &[(Start::Zero, 1), (Start::Zero, 20), (Start::Zero, 28)],
+    inputs: 3,
+    gates: &[
+        (8, 10),
+        (9, 4),
+        (15, 17),
+        (2, 19),
+        (8, 10),
+        (9, 6),
+        (23, 25),
+        (2, 27),
+        (4, 7),
+        (5, 6),
+        (31, 33),
+        (12, 35),
+    ],
+    bad: 36,
+};
+
+/// The same, but latch 2 holds the opposite of the bit, and is asked whether it is the same.
+static OPPOSITES: Parts = Parts {
+    latches: &[(Start::Zero, 1), (Start::Zero, 20), (Start::One, 29)],
+    inputs: 3,
+    gates: &[
+        (8, 10),
+        (9, 4),
+        (15, 17),
+        (2, 19),
+        (8, 10),
+        (9, 7),
+        (23, 25),
+        (2, 27),
+        (4, 7),
+        (5, 6),
+        (31, 33),
+        (12, 34),
+    ],
+    bad: 36,
+};
+
+/// A latch that is 0 and stays so; an input asks whether it is 1, which is bad.
+static CONSTANT: Parts = Parts {
+    latches: &[(Start::Zero, 1), (Start::Zero, 8)],
+    inputs: 1,
+    gates: &[(2, 4), (4, 6)],
+    bad: 10,
+};
+
+/// Latch 1 requests until an input grants it, latch 2 then acknowledges for one edge; another input
+/// holds both. The last input asks whether both are 1, which is bad.
+static HANDSHAKE: Parts = Parts {
+    latches: &[(Start::Zero, 1), (Start::Zero, 32), (Start::Zero, 40)],
+    inputs: 4,
+    gates: &[
+        (4, 11),
+        (5, 8),
+        (17, 19),
+        (21, 7),
+        (4, 10),
+        (12, 4),
+        (13, 22),
+        (27, 29),
+        (2, 31),
+        (12, 6),
+        (13, 24),
+        (35, 37),
+        (2, 39),
+        (4, 6),
+        (14, 42),
+    ],
+    bad: 44,
+};
+
+/// A bit goes through latches 1 to 3, and as two bits whose parity it is through 4 to 6 and 7 to 9.
+/// Latch 10 is 1, which is bad, once bit and parity have differed at the end.
+static SPLIT: Parts = Parts {
+    latches: &[
+        (Start::Zero, 1),
+        (Start::Zero, 24),
+        (Start::Zero, 4),
+        (Start::Zero, 6),
+        (Start::Zero, 26),
+        (Start::Zero, 10),
+        (Start::Zero, 12),
+        (Start::Zero, 33),
+        (Start::Zero, 16),
+        (Start::Zero, 18),
+        (Start::Zero, 47),
+    ],
+    inputs: 2,
+    gates: &[
+        (24, 27),
+        (25, 26),
+        (29, 31),
+        (14, 21),
+        (15, 20),
+        (35, 37),
+        (8, 38),
+        (9, 39),
+        (41, 43),
+        (23, 44),
+    ],
+    bad: 22,
+};
+
 #[test]
 fn verdicts_without_a_set(rt: HostRuntime) -> Result<(), Fail> {
     let cases = [
@@ -346,9 +474,124 @@ fn verdicts_without_a_set(rt: HostRuntime) -> Result<(), Fail> {
         row(STUCK, 2, 100, Expected::Loose(3)),
         row(PARITY, 1, 1000, Expected::Safe(1)),
         row(PARITY, 2, 1, Expected::Spent(Query::Base, 1)),
+        row(REGISTERS, 4, 1000, Expected::Loose(5)),
+        row(SPLIT, 3, 1000, Expected::Loose(4)),
+        row(SPLIT, 4, 1000, Expected::Safe(4)),
     ];
     for case in cases {
         let verdict = verdict_of(rt.alloc(), case)?;
+        let found = verdict.as_ref().map(outcome);
+        assert_eq!(rt; found, Some(case.expected));
+    }
+    Ok(())
+}
+
+/// A latch by its number plus 1, negated where the number is negative.
+fn is_literal(literal: LatchLiteral, signed: i32) -> bool {
+    u64::from(literal.latch) + 1 == u64::from(signed.unsigned_abs())
+        && literal.negated == (signed < 0)
+}
+
+/// Whether the clause has just these literals, in this order.
+fn is_clause(clause: &LatchClause, expected: &[i32]) -> bool {
+    let literals = clause.as_slice();
+    literals.len() == expected.len()
+        && literals
+            .iter()
+            .zip(expected)
+            .all(|(literal, signed)| is_literal(*literal, *signed))
+}
+
+/// Whether the list has just these clauses, in this order.
+fn is_list(list: &[LatchClause], expected: &[&[i32]]) -> bool {
+    list.len() == expected.len()
+        && list
+            .iter()
+            .zip(expected)
+            .all(|(clause, literals)| is_clause(clause, literals))
+}
+
+/// A circuit, its candidates, those of them that are kept, a bound, and the verdict with them.
+#[derive(Clone, Copy, Drop)]
+struct Mined {
+    parts: Parts,
+    candidates: &'static [&'static [i32]],
+    kept: &'static [&'static [i32]],
+    bound: u32,
+    expected: Expected,
+}
+
+/// The verdict on the case, if its parts fit, its candidates are these, and so are those that are kept.
+fn mined_verdict(alloc: Global, case: Mined) -> Result<Option<Verdict>, AllocError> {
+    let Some(plain) = circuit_of(alloc, case.parts)? else {
+        return Ok(None);
+    };
+    let circuit = with_control(alloc, plain)?;
+    let bound = case.bound;
+    if bound == 0 || bound > 32 {
+        return Ok(None);
+    }
+    let list = candidates(alloc, &circuit, 1)?;
+    if !is_list(list.as_slice(), case.candidates) {
+        return Ok(None);
+    }
+    let Thinned::Kept(set) = thin(alloc, &circuit, list, 1000)? else {
+        return Ok(None);
+    };
+    if !is_list(set.clauses.as_slice(), case.kept) {
+        return Ok(None);
+    }
+    let verdict = decide(alloc, circuit, set, bound, 1000)?;
+    Ok(Some(verdict))
+}
+
+const fn mining(
+    parts: Parts,
+    candidates: &'static [&'static [i32]],
+    kept: &'static [&'static [i32]],
+    bound: u32,
+    expected: Expected,
+) -> Mined {
+    Mined {
+        parts,
+        candidates,
+        kept,
+        bound,
+        expected,
+    }
+}
+
+/// From candidates over the set that is kept to the verdict. The candidate of the last circuit isn't
+/// kept, since no clause of two literals says that bit and parity agree on the way.
+#[test]
+fn verdicts_with_the_mined_set(rt: HostRuntime) -> Result<(), Fail> {
+    const EQUAL_CLAUSES: &[&[i32]] = &[&[2, -3], &[-2, 3]];
+    const OPPOSITE_CLAUSES: &[&[i32]] = &[&[2, 3], &[-2, -3]];
+    const EXCLUSION: &[&[i32]] = &[&[-2, -3]];
+    const ZERO: &[&[i32]] = &[&[-2]];
+    const NO_ALARM: &[&[i32]] = &[&[-11]];
+    let cases = [
+        mining(
+            REGISTERS,
+            EQUAL_CLAUSES,
+            EQUAL_CLAUSES,
+            4,
+            Expected::Safe(1),
+        ),
+        mining(
+            OPPOSITES,
+            OPPOSITE_CLAUSES,
+            OPPOSITE_CLAUSES,
+            4,
+            Expected::Safe(1),
+        ),
+        mining(CONSTANT, ZERO, ZERO, 1, Expected::Safe(1)),
+        mining(HANDSHAKE, EXCLUSION, EXCLUSION, 2, Expected::Safe(1)),
+        mining(SPLIT, NO_ALARM, &[], 3, Expected::Loose(4)),
+        mining(SPLIT, NO_ALARM, &[], 4, Expected::Safe(4)),
+    ];
+    for case in cases {
+        let verdict = mined_verdict(rt.alloc(), case)?;
         let found = verdict.as_ref().map(outcome);
         assert_eq!(rt; found, Some(case.expected));
     }
