@@ -4,3 +4,4 @@ pub mod SolverLemmas
 pub mod FewLemmas
 pub mod AnswerLemmas
 pub mod WatchLemmas
+pub mod ShortLemmas

@@ -124,6 +124,19 @@ clear_clash t p seen x c a once inside is yes_marked others = clash_at x.0 (at s
     others.member
     (false_from_ne_true (has (opposite x.0) c) (λ h. true≢false (sym (ap (λ (k : ℕ). has k (take p t)) (sym (opposite_back x.0)) ∙ others.others (opposite x.0) h (opposite_other x.0)) ∙ once.once p x is)))
 
+-- two literals of one variable
+pub same_half : (l k : ℕ) → l / 2 ≡ k / 2 → (l ≡ k) ⊎ (opposite l ≡ k)
+same_half l k e = elim (of_variable l (k / 2) e) [
+  | inl plain ↦ elim (of_variable k (k / 2) refl) [
+    | inl same ↦ inl (plain ∙ sym same)
+    | inr other ↦ inr (ap opposite plain ∙ (opposite_plain (k / 2) ∙ sym other))
+  ]
+  | inr negated ↦ elim (of_variable k (k / 2) refl) [
+    | inl other ↦ inr (ap opposite negated ∙ (opposite_negated (k / 2) ∙ sym other))
+    | inr same ↦ inl (negated ∙ sym same)
+  ]
+]
+
 pub clear_step : (n : ℕ) (cs : List (List Literal)) (t : List Literal) (bottom p : ℕ) (first : ℕ → Bool) (seen after : List Bool) (touched more : List Literal) (ids pivots : List ℕ) (x : Literal) (id : ℕ) (c : List Literal) → AreApart (set_of t) → p < bottom → IsClearing n cs t bottom (p + 1) first seen touched ids pivots → slice_get t p ≡ Some x → numbered cs id ≡ Some c → clashes (x.0 / 2) (at seen) (set_of c) ≡ true → AreOthersFalse c x.0 (set_of (take p t)) → length after ≡ length seen → Lists after more → at after ≡ resolved (x.0 / 2) (at seen) (set_of c) → IsClearing n cs t bottom p first after more (ids ++ id ∷ []) (pivots ++ (x.0 / 2) ∷ [])
 unfolding resolved
 clear_step n cs t bottom p first seen after touched more ids pivots x id c a lt w is at_c clash others long lists same =
@@ -151,18 +164,6 @@ clear_step n cs t bottom p first seen after touched more ids pivots x id c a lt 
           let other : l / 2 ≢ x.0 / 2 = λ e. elim (same_half l x.0 e) [ inl q ↦ not_x q | inr q ↦ not_opposite q ] in
           ap (λ (f : ℕ → Bool). f l) same ∙ rw (ne_eqb (l / 2) (x.0 / 2) other, old) refl;
     }
-  where
-    same_half : (l k : ℕ) → l / 2 ≡ k / 2 → (l ≡ k) ⊎ (opposite l ≡ k)
-    same_half l k e = elim (of_variable l (k / 2) e) [
-      | inl plain ↦ elim (of_variable k (k / 2) refl) [
-        | inl same ↦ inl (plain ∙ sym same)
-        | inr other ↦ inr (ap opposite plain ∙ (opposite_plain (k / 2) ∙ sym other))
-      ]
-      | inr negated ↦ elim (of_variable k (k / 2) refl) [
-        | inl other ↦ inr (ap opposite negated ∙ (opposite_negated (k / 2) ∙ sym other))
-        | inr same ↦ inl (negated ∙ sym same)
-      ]
-    ]
 
 lacks_earlier : (t : List Literal) (m i l : ℕ) → m ≤ i → has l (take i t) ≡ false → has l (take m t) ≡ false
 lacks_earlier t m i l le h = false_from_ne_true (has l (take m t)) (λ e. true≢false (sym (has_longer m i t l le e) ∙ h))

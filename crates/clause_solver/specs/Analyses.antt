@@ -1,7 +1,7 @@
 -- What the way back along the trail gives.
-use Rattle.std.specs.Prelude.{◌≡◌, ℕ, ◌+◌, Bool, true, false, List, Option, Some, None, slice_get}
+use Rattle.std.specs.Prelude.{◌≡◌, ℕ, ◌+◌, Bool, true, false, List, take, Option, Some, None, slice_get}
 use Rattle.lemma_checker.specs.declared.literal.Literal.{Literal}
-use Rattle.lemma_checker.specs.Clauses.{opposite, at}
+use Rattle.lemma_checker.specs.Clauses.{opposite, has, at}
 use Rattle.lemma_checker.specs.Chains.{chain_result}
 use Rattle.clause_solver.specs.declared.analysis.Stop.{Stop}
 use Rattle.clause_solver.specs.declared.analysis.Analysis.{Analysis}
@@ -11,6 +11,12 @@ use Rattle.clause_solver.specs.Walks.{IsWalk, IsStop, IsFound}
 -- the opposite of the literal at the place is in the set
 pub record IsMarkedAt (f : ℕ → Bool) (t : List Literal) (i : ℕ) : Type 0 where
   pub each : (x : Literal) → slice_get t i ≡ Some x → f (opposite x.0) ≡ true
+
+-- the set is what the chain gives; it has the opposite of the literal at place i, and its others are denied before `low`
+pub record IsShort (n : ℕ) (clauses : List (List Literal)) (t : List Literal) (i low : ℕ) (seen : List Bool) (touched : List Literal) (ids pivots : List ℕ) : Type 0 where
+  pub walk : IsWalk n clauses t (i + 1) seen touched ids pivots
+  pub marked : IsMarkedAt (at seen) t i
+  pub before : (l : ℕ) → at seen l ≡ true → has (opposite l) (take i t) ≡ true → has (opposite l) (take low t) ≡ true
 
 -- the walk stops at the place, whose literal denies one of the set, to go back to level k
 pub record StepStops (n : ℕ) (clauses : List (List Literal)) (t : List Literal) (starts : List ℕ) (i k low : ℕ) (seen : List Bool) (touched : List Literal) (ids pivots : List ℕ) : Type 0 where

@@ -9,6 +9,8 @@ ghost use Rattle.lemma_checker.specs.Chains.{chain_result};
 ghost use Rattle.clause_solver.specs.Walks.{IsWalk, IsStop, IsClearing};
 ghost use Rattle.clause_solver.specs.Analyses.{IsMarkedAt, StepStops, StepIs, AnalysisIs};
 
+use crate::plan::Plan;
+use crate::shorten::shorten;
 use crate::walk::{Found, stop_at};
 use lemma_checker::chain::{Chain, ChainFault};
 use lemma_checker::clauses::Clauses;
@@ -199,8 +201,7 @@ fn clear_bottom(
     })
 }
 
-/// The chain that the conflict gives, and where to go back to. `levels` has by variable the level at
-/// which it got its value, and only guides the search.
+/// The chain that the conflict gives, and where to go back to. The plan only guides the search.
 pub fn analyze(
     alloc: Global,
     formula: &Clauses,
@@ -209,7 +210,7 @@ pub fn analyze(
     conflict: u32,
     seen: &mut [bool],
     touched: &mut Vec<Literal>,
-    levels: &[u32],
+    plan: &mut Plan,
 ) -> Result<Analysis, AllocError>
     requires trail { IsTrailOf (formula.now ++ added.now) trail.now }
     requires over { AreWithin (length trail.now.values.items) (formula.now ++ added.now) }
@@ -230,14 +231,24 @@ pub fn analyze(
         ids,
         pivots: Vec::new(alloc),
     };
-    let mut open = count_of_level(touched.as_slice(), levels, trail.starts.len());
+    let mut open = count_of_level(
+        touched.as_slice(),
+        plan.levels.as_slice(),
+        trail.starts.len(),
+    );
     let mut i = trail.literals.len();
     while i > 0 {
         i -= 1;
+        let levels = plan.levels.as_slice();
         let step = step_back(
             formula, added, trail, i, seen, touched, &mut chain, &mut open, levels,
         )?;
         if let Some(found) = step {
+            plan.make(formula, added, trail, seen, touched.as_slice(), found.low)?;
+            let drops = plan.drops.as_slice();
+            let found = shorten(
+                formula, added, trail, i, found, drops, seen, touched, &mut chain,
+            )?;
             let stop = clear_bottom(formula, added, trail, i, found, seen, touched, &mut chain)?;
             return Ok(Analysis {
                 chain,

@@ -1,6 +1,7 @@
 //! The order in which variables are chosen, their last values, and when the search starts again: this
 //! guides the search, and nothing rests on it.
 
+use crate::plan::Plan;
 use lemma_checker::literal::Literal;
 use lemma_checker::resolver::is_marked;
 use std::alloc::{AllocError, Global};
@@ -13,15 +14,15 @@ const LIMIT: u64 = 0x4_0000_0000_0000;
 /// How many lemmas the shortest run between two restarts has.
 const RUN: u32 = 100;
 
-/// A heap of the variables by activity, with the place of each, counted from 1; their activities,
-/// their last values and the levels at which they got them.
+/// A heap of the variables by activity, with the place of each, counted from 1; their activities and
+/// their last values; and the plan of the next lemma.
 #[derive(Debug, Drop)]
 pub struct Order {
     activities: Vec<u64>,
     heap: Vec<u32>,
     places: Vec<u32>,
     phases: Vec<bool>,
-    pub levels: Vec<u32>,
+    pub plan: Plan,
     step: u64,
     runs: Runs,
 }
@@ -60,8 +61,7 @@ impl Order {
         activities.resize(size, 0)?;
         let mut phases = Vec::new(alloc);
         phases.resize(size, false)?;
-        let mut levels = Vec::new(alloc);
-        levels.resize(size, 0)?;
+        let plan = Plan::new(alloc, vars)?;
         let mut heap = Vec::new(alloc);
         let mut places = Vec::new(alloc);
         for variable in 0..vars {
@@ -74,7 +74,7 @@ impl Order {
             heap,
             places,
             phases,
-            levels,
+            plan,
             step: 0x10_0000,
             runs: Runs {
                 turn: 1,
@@ -193,7 +193,7 @@ impl Order {
     pub fn bump(&mut self, literals: &[Literal]) {
         for literal in literals {
             let variable = literal.variable();
-            if self.levels.get(variable as usize).copied().unwrap_or(0) > 0 {
+            if self.plan.level(*literal) > 0 {
                 if let Some(slot) = self.activities.get_mut(variable as usize) {
                     *slot = slot.saturating_add(self.step);
                 }
@@ -212,15 +212,14 @@ impl Order {
     /// Notes the literals that the trail gained, with their level and sign.
     pub fn note_from(&mut self, trail: &Trail, before: usize) {
         let level = u32::try_from(trail.starts.len()).unwrap_or(u32::MAX);
-        if let Some(literals) = trail.literals.as_slice().get(before.saturating_sub(1)..) {
+        let mut place = before.saturating_sub(1);
+        if let Some(literals) = trail.literals.as_slice().get(place..) {
             for literal in literals {
-                let variable = literal.variable() as usize;
-                if let Some(slot) = self.levels.get_mut(variable) {
-                    *slot = level;
-                }
-                if let Some(slot) = self.phases.get_mut(variable) {
+                self.plan.note(*literal, place, level);
+                if let Some(slot) = self.phases.get_mut(literal.variable() as usize) {
                     *slot = !literal.is_negated();
                 }
+                place = place.saturating_add(1);
             }
         }
     }

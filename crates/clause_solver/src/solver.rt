@@ -16,6 +16,7 @@ use crate::analysis::{Analysis, Stop, analyze};
 use crate::answer::Solved;
 use crate::ends::{model, refute, to_bottom};
 use crate::order::Order;
+use crate::plan::Plan;
 use crate::search::descend;
 use crate::turn::Turn;
 use lemma_checker::chain::ChainFault;
@@ -35,7 +36,7 @@ fn settle(
     conflict: u32,
     seen: &mut [bool],
     touched: &mut Vec<Literal>,
-    levels: &[u32],
+    plan: &mut Plan,
 ) -> Result<Analysis, AllocError>
     requires trail { IsTrailOf (all_of lemmas.now) trail.now }
     requires size { length trail.now.values.items ≡ 2 * lemmas.now.formula.vars + 2 }
@@ -54,7 +55,7 @@ fn settle(
         conflict,
         seen,
         touched,
-        levels,
+        plan,
     )
 }
 
@@ -137,8 +138,8 @@ fn take_turn(
     let Some(conflict) = descend(lemmas, watches, trail, order)? else {
         return Ok(Turn::Assigned);
     };
-    let levels = order.levels.as_slice();
-    let analysis = settle(alloc, lemmas, trail, conflict, seen, touched, levels)?;
+    let plan = &mut order.plan;
+    let analysis = settle(alloc, lemmas, trail, conflict, seen, touched, plan)?;
     order.bump(touched.as_slice());
     release(order, trail, &analysis)?;
     let turn = finish(lemmas, watches, trail, analysis)?;
@@ -153,7 +154,7 @@ fn conclude(
     trail: &mut Trail,
     seen: &mut [bool],
     touched: &mut Vec<Literal>,
-    levels: &[u32],
+    plan: &mut Plan,
 ) -> Result<Solved, AllocError>
     requires ready { IsReady lemmas watches.old trail.old }
     requires few { length lemmas.formula.clauses + length lemmas.added < 2 ^ 31 }
@@ -166,7 +167,7 @@ fn conclude(
     let Some(conflict) = watches.propagate(trail)? else {
         return Ok(Solved::Spent(lemmas));
     };
-    let analysis = settle(alloc, &lemmas, trail, conflict, seen, touched, levels)?;
+    let analysis = settle(alloc, &lemmas, trail, conflict, seen, touched, plan)?;
     match finish(&mut lemmas, watches, trail, analysis)? {
         Turn::Refuted => Ok(Solved::Unsat(refute(lemmas))),
         Turn::Learned | Turn::Assigned => unreachable!(),
@@ -214,7 +215,7 @@ fn rounds(
         trail,
         seen,
         touched,
-        order.levels.as_slice(),
+        &mut order.plan,
     )?;
     Ok(solved)
 }

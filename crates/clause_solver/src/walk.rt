@@ -15,7 +15,7 @@ use std::vec::Vec;
 use watch_lists::trail::Trail;
 
 /// The place up to which the marked literals' opposites stand, of those before `i`.
-fn lower_end(seen: &[bool], literals: &[Literal], i: usize) -> usize
+pub fn lower_end(seen: &[bool], literals: &[Literal], i: usize) -> usize
     requires within { i ≤ length literals.now }
     ensures { IsEnd (at seen.now) literals.now i result }
 {
@@ -31,7 +31,7 @@ fn lower_end(seen: &[bool], literals: &[Literal], i: usize) -> usize
 }
 
 /// The first level that starts at `low` or later, if it doesn't start past `i`.
-fn level_between(starts: &[usize], low: usize, i: usize) -> Option<usize>
+pub fn level_between(starts: &[usize], low: usize, i: usize) -> Option<usize>
     requires rising { AreRising starts.now }
     ensures some { IfSome result (λ k. IsBetween starts.now low i k) }
     ensures none { IfNone result ((j a : ℕ) → slice_get starts.now j ≡ Some a → low ≤ a → i < a) }
