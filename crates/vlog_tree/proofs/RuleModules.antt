@@ -48,7 +48,7 @@ use Rattle.vlog_tree.specs.Expressions.{fits_expr, fits_next_expr}
 use Rattle.vlog_tree.specs.Statements.{fits_event, fits_label, fits_if_head, fits_stmt}
 use Rattle.vlog_tree.specs.Modules.{flat_dir, fits_dir, flat_kind, fits_kind, flat_range, fits_range, flat_type, fits_type, flat_assigned, fits_assigned, flat_net, fits_net, flat_next_net, fits_next_net, flat_constant, fits_constant, flat_next_constant, fits_next_constant, flat_driver, fits_driver, flat_next_driver, fits_next_driver, flat_next_name, fits_next_name, flat_pdec, fits_pdec, flat_next_pdec, fits_next_pdec, flat_pdecs, fits_pdecs, flat_port_head, fits_port_head, flat_next_port, fits_next_port, flat_ports, fits_ports, flat_port_list, fits_port_list, flat_conn, fits_conn, flat_next_conn, fits_next_conn, flat_conns, fits_conns, flat_overrides, fits_overrides, flat_instance, fits_instance, flat_for_head, fits_for_head, flat_module, fits_module, flat_gbody, fits_gbody, flat_mitem, fits_mitem, flat_gelse, grade_gelse, fits_gelse, item_ends_open, body_ends_open, is_named_block}
 use Rattle.vlog_tree.specs.ReadExpressions.{Reader, word, begins_expr}
-use Rattle.vlog_tree.specs.ReadModules.{dir, kind, range, type, assigned, net, next_net, constant, next_constant, driver, next_driver, next_name, pdec, next_pdec, pdecs, port_head, next_port, ports, port_list, conn, next_conn, conns, overrides, instance, for_head, is_dir, is_net_kind, begins_ports, begins_conns, port_item, net_item, constant_item, genvar_item, assign_item, always_item, initial_item, begins_mitem, mitems, region, body_block, named_block, loop, gbody, gelse, any_gelse, gbranches, gconditional, mitem_of, mitem, module_, modules}
+use Rattle.vlog_tree.specs.ReadModules.{dir, kind, range, shape, assigned, net, next_net, constant, next_constant, driver, next_driver, next_name, pdec, next_pdec, pdecs, port_head, next_port, ports, port_list, conn, next_conn, conns, overrides, instance, for_head, is_dir, is_net_kind, begins_ports, begins_conns, port_item, net_item, constant_item, genvar_item, assign_item, always_item, initial_item, begins_mitem, mitems, region, body_block, named_block, for_item, gbody, gelse, any_gelse, gbranches, gconditional, mitem_of, mitem, module_, modules}
 use Rattle.vlog_tree.proofs.FoldsModules.{flat_gbody_Item, flat_gbody_Block, grade_gbody_Item, grade_gbody_Block, by_gbody, flat_mitem_Ports, flat_mitem_Nets, flat_mitem_Constants, flat_mitem_Genvars, flat_mitem_Assigns, flat_mitem_Always, flat_mitem_Initial, flat_mitem_Generate, flat_mitem_Instance, flat_mitem_For, flat_mitem_If, grade_mitem_Ports, grade_mitem_Nets, grade_mitem_Constants, grade_mitem_Genvars, grade_mitem_Assigns, grade_mitem_Always, grade_mitem_Initial, grade_mitem_Generate, grade_mitem_Instance, grade_mitem_For, grade_mitem_If_alone, grade_mitem_If_with, by_mitem, flat_gelse_roll, grade_gelse_roll}
 use Rattle.vlog_tree.proofs.Sorts.{and_both, and_left, and_right, not_both, subset, disjoint, always_word_sorted, assign_word_sorted, begin_word_sorted, begins_conns_sorted, begins_expr_sorted, begins_mitem_sorted, begins_ports_sorted, comma_sorted, equals_sorted, for_word_sorted, generate_word_sorted, genvar_word_sorted, hash_sorted, if_word_sorted, initial_word_sorted, input_word_sorted, is_constant_word_sorted, is_dir_sorted, is_net_kind_sorted, module_word_sorted, name_sorted, open_bracket_sorted, open_paren_sorted, parameter_word_sorted, signed_word_sorted, wire_word_sorted}
 use Rattle.vlog_tree.proofs.Conjunctions.{both2, both3, both4, both5, both7, both8, fit2, fit3, fit4, fit5, fit7, fit8}
@@ -114,9 +114,9 @@ range_rule room more le =
 abbrev make_type : (Option VToken) × ((Option VRange)) → VType
 make_type p = record { signed = p.0; range = p.1 }
 
-pub type_rule : (room more : ℕ) → room ≤ more → Reading room more (17 ∷ 42 ∷ 1 ∷ []) (1 ∷ []) (type room) (type more) flat_type (Holds fits_type)
-unfolding type
-type_rule room more le =
+pub shape_rule : (room more : ℕ) → room ≤ more → Reading room more (17 ∷ 42 ∷ 1 ∷ []) (1 ∷ []) (shape room) (shape more) flat_type (Holds fits_type)
+unfolding shape
+shape_rule room more le =
     wider_rule (17 ∷ 42 ∷ 1 ∷ []) (1 ∷ []) refl refl
     (as_rule make_type flat_type (Holds fits_type) (λ p h. (refl, both2 h)) (λ x h. ((x.signed, x.range), (refl, fit2 h)))
     (then_rule refl (any_rule (is_word (codes "signed")) (17 ∷ []) signed_word_sorted refl refl refl (signed_word_rule room more (42 ∷ 1 ∷ []))) (λ _. (any_rule (is_mark (codes "[")) (42 ∷ []) open_bracket_sorted refl refl refl (wider_rule (42 ∷ []) (1 ∷ []) refl refl (range_rule room more le))))))
@@ -209,7 +209,7 @@ unfolding pdec
 pdec_rule room more le =
     wider_rule (12 ∷ 17 ∷ 42 ∷ 1 ∷ []) (47 ∷ 41 ∷ []) refl refl
     (as_rule make_pdec flat_pdec (Holds fits_pdec) (λ p h. (refl, both3 h)) (λ x h. ((x.word, (x.shape, x.constant)), (refl, fit3 h)))
-    (then_rule refl (any_rule (is_word (codes "parameter")) (12 ∷ []) parameter_word_sorted refl refl refl (parameter_word_rule room more (17 ∷ 42 ∷ 1 ∷ []))) (λ _. (then_rule refl (wider_rule (17 ∷ 42 ∷ 1 ∷ []) (1 ∷ []) refl refl (type_rule room more le)) (λ _. (wider_rule (1 ∷ []) (47 ∷ 41 ∷ []) refl refl (constant_rule room more le)))))))
+    (then_rule refl (any_rule (is_word (codes "parameter")) (12 ∷ []) parameter_word_sorted refl refl refl (parameter_word_rule room more (17 ∷ 42 ∷ 1 ∷ []))) (λ _. (then_rule refl (wider_rule (17 ∷ 42 ∷ 1 ∷ []) (1 ∷ []) refl refl (shape_rule room more le)) (λ _. (wider_rule (1 ∷ []) (47 ∷ 41 ∷ []) refl refl (constant_rule room more le)))))))
 
 abbrev make_next_pdec : VToken × (VPdec) → VNextPdec
 make_next_pdec p = record { comma = p.0; pdec = p.1 }
@@ -239,7 +239,7 @@ unfolding port_head
 port_head_rule room more le =
     wider_rule (13 ∷ 14 ∷ []) (1 ∷ []) refl refl
     (as_rule make_port_head flat_port_head (Holds fits_port_head) (λ p h. (refl, both3 h)) (λ x h. ((x.dir, (x.kind, x.shape)), (refl, fit3 h)))
-    (then_rule refl (wider_rule (13 ∷ 14 ∷ []) (15 ∷ 16 ∷ 17 ∷ 42 ∷ 1 ∷ []) refl refl (dir_rule room more)) (λ _. (then_rule refl (any_rule is_net_kind (15 ∷ 16 ∷ []) is_net_kind_sorted refl refl refl (wider_rule (15 ∷ 16 ∷ []) (17 ∷ 42 ∷ 1 ∷ []) refl refl (kind_rule room more))) (λ _. (wider_rule (17 ∷ 42 ∷ 1 ∷ []) (1 ∷ []) refl refl (type_rule room more le)))))))
+    (then_rule refl (wider_rule (13 ∷ 14 ∷ []) (15 ∷ 16 ∷ 17 ∷ 42 ∷ 1 ∷ []) refl refl (dir_rule room more)) (λ _. (then_rule refl (any_rule is_net_kind (15 ∷ 16 ∷ []) is_net_kind_sorted refl refl refl (wider_rule (15 ∷ 16 ∷ []) (17 ∷ 42 ∷ 1 ∷ []) refl refl (kind_rule room more))) (λ _. (wider_rule (17 ∷ 42 ∷ 1 ∷ []) (1 ∷ []) refl refl (shape_rule room more le)))))))
 
 abbrev make_next_port : VToken × ((Option VPortHead) × (VToken)) → VNextPort
 make_next_port p = record { comma = p.0; head = p.1.0; name = p.1.1 }
@@ -397,7 +397,7 @@ net_item_rule : (room more : ℕ) → room ≤ more → Reading room more (15 �
 unfolding net_item
 net_item_rule room more le =
     image_rule make_net_item flat_mitem (λ a h. flat_mitem_Nets a.0 a.1.0 a.1.1.0 a.1.1.1.0 a.1.1.1.1)
-    (then_rule refl (wider_rule (15 ∷ 16 ∷ []) (17 ∷ 42 ∷ 1 ∷ []) refl refl (kind_rule room more)) (λ _. (then_rule refl (wider_rule (17 ∷ 42 ∷ 1 ∷ []) (1 ∷ []) refl refl (type_rule room more le)) (λ _. (then_rule refl (wider_rule (1 ∷ []) (47 ∷ 46 ∷ []) refl refl (net_rule room more le)) (λ _. (then_rule refl (each_rule (is_mark (codes ",")) (47 ∷ []) (46 ∷ []) comma_sorted refl refl refl refl (λ a h. omega arith) (next_net_rule room more le)) (λ _. (semi_rule room more (27 ∷ mitem_nexts))))))))))
+    (then_rule refl (wider_rule (15 ∷ 16 ∷ []) (17 ∷ 42 ∷ 1 ∷ []) refl refl (kind_rule room more)) (λ _. (then_rule refl (wider_rule (17 ∷ 42 ∷ 1 ∷ []) (1 ∷ []) refl refl (shape_rule room more le)) (λ _. (then_rule refl (wider_rule (1 ∷ []) (47 ∷ 46 ∷ []) refl refl (net_rule room more le)) (λ _. (then_rule refl (each_rule (is_mark (codes ",")) (47 ∷ []) (46 ∷ []) comma_sorted refl refl refl refl (λ a h. omega arith) (next_net_rule room more le)) (λ _. (semi_rule room more (27 ∷ mitem_nexts))))))))))
 
 abbrev make_constant_item : VToken × (VType × (VConstant × ((List VNextConstant) × (VToken)))) → VMitem
 make_constant_item p = VMitem.Constants p.0 p.1.0 p.1.1.0 p.1.1.1.0 p.1.1.1.1
@@ -409,7 +409,7 @@ constant_item_rule : (room more : ℕ) → room ≤ more → Reading room more (
 unfolding constant_item
 constant_item_rule room more le =
     image_rule make_constant_item flat_mitem (λ a h. flat_mitem_Constants a.0 a.1.0 a.1.1.0 a.1.1.1.0 a.1.1.1.1)
-    (then_rule refl (constant_any_rule room more (17 ∷ 42 ∷ 1 ∷ [])) (λ _. (then_rule refl (wider_rule (17 ∷ 42 ∷ 1 ∷ []) (1 ∷ []) refl refl (type_rule room more le)) (λ _. (then_rule refl (wider_rule (1 ∷ []) (47 ∷ 46 ∷ []) refl refl (constant_rule room more le)) (λ _. (then_rule refl (each_rule (is_mark (codes ",")) (47 ∷ []) (46 ∷ []) comma_sorted refl refl refl refl (λ a h. omega arith) (next_constant_rule room more le)) (λ _. (semi_rule room more (27 ∷ mitem_nexts))))))))))
+    (then_rule refl (constant_any_rule room more (17 ∷ 42 ∷ 1 ∷ [])) (λ _. (then_rule refl (wider_rule (17 ∷ 42 ∷ 1 ∷ []) (1 ∷ []) refl refl (shape_rule room more le)) (λ _. (then_rule refl (wider_rule (1 ∷ []) (47 ∷ 46 ∷ []) refl refl (constant_rule room more le)) (λ _. (then_rule refl (each_rule (is_mark (codes ",")) (47 ∷ []) (46 ∷ []) comma_sorted refl refl refl refl (λ a h. omega arith) (next_constant_rule room more le)) (λ _. (semi_rule room more (27 ∷ mitem_nexts))))))))))
 
 abbrev make_genvar_item : VToken × (VToken × ((List VNextName) × (VToken))) → VMitem
 make_genvar_item p = VMitem.Genvars p.0 p.1.0 p.1.1.0 p.1.1.1
@@ -560,9 +560,9 @@ make_loop p = VMitem.For p.0 p.1
 abbrev LoopParts : VForHead × VGbody → Type 0
 LoopParts p = (fits_for_head p.0 ≡ true) × (fits_named p.1 ≡ true)
 
-loop_rule : (room more : ℕ) → room ≤ more → (p q : Reader VMitem) → Items room more p q → Reading (suc room) (suc more) (25 ∷ []) (27 ∷ mitem_nexts) (loop (suc room) p) (loop (suc more) q) flat_mitem (Image make_loop LoopParts)
-unfolding loop
-loop_rule room more le p q inner =
+for_item_rule : (room more : ℕ) → room ≤ more → (p q : Reader VMitem) → Items room more p q → Reading (suc room) (suc more) (25 ∷ []) (27 ∷ mitem_nexts) (for_item (suc room) p) (for_item (suc more) q) flat_mitem (Image make_loop LoopParts)
+unfolding for_item
+for_item_rule room more le p q inner =
     image_rule make_loop flat_mitem (λ a h. flat_mitem_For a.0 a.1)
     (then_step_rule refl (λ a h. omega arith) (for_head_rule (suc room) (suc more) (omega arith)) (λ _. named_block_rule room more p q inner))
 
@@ -705,7 +705,7 @@ mitem_of_ending room more le p q inner =
     (or_ending (is_word (codes "always")) (21 ∷ []) always_word_sorted refl refl refl (always_ending (suc room) (suc more) le')
     (or_ending (is_word (codes "initial")) (22 ∷ []) initial_word_sorted refl refl refl (initial_ending (suc room) (suc more) le')
     (or_ending (is_word (codes "generate")) (23 ∷ []) generate_word_sorted refl refl refl (always item_ends_open (region_rule room more p q inner))
-    (or_ending (is_word (codes "for")) (25 ∷ []) for_word_sorted refl refl refl (always item_ends_open (loop_rule room more le p q inner))
+    (or_ending (is_word (codes "for")) (25 ∷ []) for_word_sorted refl refl refl (always item_ends_open (for_item_rule room more le p q inner))
     (or_ending (is_word (codes "if")) (26 ∷ []) if_word_sorted refl refl refl (gconditional_ending room more le p q inner)
     (always item_ends_open (image_rule VMitem.Instance flat_mitem (λ a h. flat_mitem_Instance a) (instance_rule (suc room) (suc more) le'))))))))))))))
 

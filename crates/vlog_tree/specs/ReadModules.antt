@@ -64,8 +64,8 @@ kind = on (is_word (codes "wire")) (form VKind.Wire (word (codes "wire"))) (form
 unfoldable pub range : ℕ → Reader VRange
 range room = form (λ p. record { «open» = p.0; high = p.1.0; colon = p.1.1.0; low = p.1.1.1.0; close = p.1.1.1.1 }) (seq (mark (codes "[")) (λ _. (seq (expr room) (λ _. (seq (mark (codes ":")) (λ _. (seq (expr room) (λ _. (mark (codes "]"))))))))))
 
-unfoldable pub type : ℕ → Reader VType
-type room = form (λ p. record { signed = p.0; range = p.1 }) (seq (optional (is_word (codes "signed")) (word (codes "signed"))) (λ _. (optional (is_mark (codes "[")) (range room))))
+unfoldable pub shape : ℕ → Reader VType
+shape room = form (λ p. record { signed = p.0; range = p.1 }) (seq (optional (is_word (codes "signed")) (word (codes "signed"))) (λ _. (optional (is_mark (codes "[")) (range room))))
 
 unfoldable pub assigned : ℕ → Reader VAssigned
 assigned room = form (λ p. record { equals = p.0; value = p.1 }) (seq (mark (codes "=")) (λ _. (expr room)))
@@ -92,7 +92,7 @@ unfoldable pub next_name : Reader VNextName
 next_name = form (λ p. record { comma = p.0; name = p.1 }) (seq (mark (codes ",")) (λ _. (expect is_name)))
 
 unfoldable pub pdec : ℕ → Reader VPdec
-pdec room = form (λ p. record { word = p.0; shape = p.1.0; constant = p.1.1 }) (seq (optional (is_word (codes "parameter")) (word (codes "parameter"))) (λ _. (seq (type room) (λ _. (constant room)))))
+pdec room = form (λ p. record { word = p.0; shape = p.1.0; constant = p.1.1 }) (seq (optional (is_word (codes "parameter")) (word (codes "parameter"))) (λ _. (seq (shape room) (λ _. (constant room)))))
 
 unfoldable pub next_pdec : ℕ → Reader VNextPdec
 next_pdec room = form (λ p. record { comma = p.0; pdec = p.1 }) (seq (mark (codes ",")) (λ _. (pdec room)))
@@ -104,7 +104,7 @@ unfoldable pub is_net_kind : VToken → Bool
 is_net_kind t = is_word (codes "wire") t || is_word (codes "reg") t
 
 unfoldable pub port_head : ℕ → Reader VPortHead
-port_head room = form (λ p. record { dir = p.0; kind = p.1.0; shape = p.1.1 }) (seq dir (λ _. (seq (optional is_net_kind kind) (λ _. (type room)))))
+port_head room = form (λ p. record { dir = p.0; kind = p.1.0; shape = p.1.1 }) (seq dir (λ _. (seq (optional is_net_kind kind) (λ _. (shape room)))))
 
 unfoldable pub is_dir : VToken → Bool
 is_dir t = is_word (codes "input") t || is_word (codes "output") t
@@ -148,10 +148,10 @@ unfoldable pub port_item : ℕ → Reader VMitem
 port_item room = form (λ p. VMitem.Ports p.0 p.1.0 p.1.1.0 p.1.1.1) (seq (port_head room) (λ _. (seq (expect is_name) (λ _. (seq (many (is_mark (codes ",")) next_name) (λ _. (mark (codes ";"))))))))
 
 unfoldable pub net_item : ℕ → Reader VMitem
-net_item room = form (λ p. VMitem.Nets p.0 p.1.0 p.1.1.0 p.1.1.1.0 p.1.1.1.1) (seq kind (λ _. (seq (type room) (λ _. (seq (net room) (λ _. (seq (many (is_mark (codes ",")) (next_net room)) (λ _. (mark (codes ";"))))))))))
+net_item room = form (λ p. VMitem.Nets p.0 p.1.0 p.1.1.0 p.1.1.1.0 p.1.1.1.1) (seq kind (λ _. (seq (shape room) (λ _. (seq (net room) (λ _. (seq (many (is_mark (codes ",")) (next_net room)) (λ _. (mark (codes ";"))))))))))
 
 unfoldable pub constant_item : ℕ → Reader VMitem
-constant_item room = form (λ p. VMitem.Constants p.0 p.1.0 p.1.1.0 p.1.1.1.0 p.1.1.1.1) (seq (expect is_constant_word) (λ _. (seq (type room) (λ _. (seq (constant room) (λ _. (seq (many (is_mark (codes ",")) (next_constant room)) (λ _. (mark (codes ";"))))))))))
+constant_item room = form (λ p. VMitem.Constants p.0 p.1.0 p.1.1.0 p.1.1.1.0 p.1.1.1.1) (seq (expect is_constant_word) (λ _. (seq (shape room) (λ _. (seq (constant room) (λ _. (seq (many (is_mark (codes ",")) (next_constant room)) (λ _. (mark (codes ";"))))))))))
 
 unfoldable pub genvar_item : Reader VMitem
 genvar_item = form (λ p. VMitem.Genvars p.0 p.1.0 p.1.1.0 p.1.1.1) (seq (word (codes "genvar")) (λ _. (seq (expect is_name) (λ _. (seq (many (is_mark (codes ",")) next_name) (λ _. (mark (codes ";"))))))))
@@ -185,8 +185,8 @@ unfoldable pub named_block : Reader VMitem → Reader VGbody
 named_block inner =
     form (λ p. VGbody.Block p.0 (Some p.1.0) p.1.1.0 p.1.1.1) (seq (word (codes "begin")) (λ _. seq label (λ _. seq (mitems inner) (λ _. word (codes "end")))))
 
-unfoldable pub loop : ℕ → Reader VMitem → Reader VMitem
-loop room inner = form (λ p. VMitem.For p.0 p.1) (seq (for_head room) (λ _. named_block inner))
+unfoldable pub for_item : ℕ → Reader VMitem → Reader VMitem
+for_item room inner = form (λ p. VMitem.For p.0 p.1) (seq (for_head room) (λ _. named_block inner))
 
 unfoldable pub gbody : Reader VMitem → Reader VGbody
 gbody inner = on (is_word (codes "begin")) (body_block inner) (form VGbody.Item inner)
@@ -208,7 +208,7 @@ unfoldable pub mitem_of : ℕ → Reader VMitem → Reader VMitem
 mitem_of room inner =
     on is_dir (port_item room) (on is_net_kind (net_item room) (on is_constant_word (constant_item room) (on (is_word (codes "genvar")) genvar_item
     (on (is_word (codes "assign")) (assign_item room) (on (is_word (codes "always")) (always_item room) (on (is_word (codes "initial")) (initial_item room)
-    (on (is_word (codes "generate")) (region inner) (on (is_word (codes "for")) (loop room inner) (on (is_word (codes "if")) (gconditional room inner)
+    (on (is_word (codes "generate")) (region inner) (on (is_word (codes "for")) (for_item room inner) (on (is_word (codes "if")) (gconditional room inner)
     (form VMitem.Instance (instance room)))))))))))
 
 unfoldable pub mitem : ℕ → Reader VMitem
