@@ -1,0 +1,11 @@
+pub mod Fronts
+pub mod Deep
+pub mod Rooms
+pub mod Chains
+pub mod Ends
+pub mod Theorem
+pub mod Faults
+pub mod Instances
+pub mod Tops
+pub mod Decided
+pub mod Begins

@@ -1,0 +1,5 @@
+pub mod LeftOut
+pub mod Depth
+pub mod Counts
+pub mod Refusal
+pub mod Top

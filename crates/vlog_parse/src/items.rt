@@ -1,0 +1,420 @@
+//! Modules and their items, which hold items.
+
+ghost use Rattle.std.specs.Prelude.{◌≡◌, codes};
+ghost use Rattle.parsing.specs.Parser.{sees, seq};
+ghost use Rattle.parsing.specs.Reads.{Reads};
+ghost use Rattle.vlog_tree.specs.Modules as trees;
+ghost use Rattle.vlog_tree.specs.ReadExpressions.{mark, word};
+ghost use Rattle.vlog_tree.specs.ReadModules as spec;
+
+use crate::cursor::Cursor;
+use crate::declarations::{
+    any_pdecs, any_port_list, constant, driver, for_head, instance, kind, net, next_constants,
+    next_drivers, next_names, next_nets, port_head, sees_dir, sees_net_kind, shape,
+};
+use crate::statements::{any_label, ends_open, event, if_head, label, stmt};
+use parsing::stop::Stop;
+use sqlite_items::{Boxed, Items};
+use std::alloc::Global;
+use vlog_tree::token::VToken;
+use vlog_tree::tree_modules::{VGbody, VGelse, VMitem, VModule};
+
+/// `dir [kind] type NAME {"," NAME} ";"`
+#[tactic(auto, unfolding(vlog_tree::specs::ReadModules::port_item))]
+fn port_item(alloc: Global, tokens: &mut Cursor<'_>, room: usize) -> Result<VMitem, Stop>
+    ensures { Reads (spec.port_item room tokens.old) result tokens.new }
+{
+    let head = Boxed::new(alloc, port_head(alloc, tokens, room)?)?;
+    let first = tokens.name(alloc)?;
+    let more = next_names(alloc, tokens)?;
+    let semi = tokens.mark(alloc, b";")?;
+    let head = head.into_inner();
+    Ok(VMitem::Ports(head, first, more, semi))
+}
+
+/// `kind type NAME ["=" expr] {"," NAME ["=" expr]} ";"`
+#[tactic(auto, unfolding(vlog_tree::specs::ReadModules::net_item))]
+fn net_item(alloc: Global, tokens: &mut Cursor<'_>, room: usize) -> Result<VMitem, Stop>
+    ensures { Reads (spec.net_item room tokens.old) result tokens.new }
+{
+    let kind = kind(alloc, tokens)?;
+    let shape = Boxed::new(alloc, shape(alloc, tokens, room)?)?;
+    let first = Boxed::new(alloc, net(alloc, tokens, room)?)?;
+    let more = next_nets(alloc, tokens, room)?;
+    let semi = tokens.mark(alloc, b";")?;
+    let (shape, first) = (shape.into_inner(), first.into_inner());
+    Ok(VMitem::Nets(kind, shape, first, more, semi))
+}
+
+/// `("parameter" | "localparam") type NAME "=" expr {"," NAME "=" expr} ";"`
+#[tactic(auto, unfolding(vlog_tree::specs::ReadModules::constant_item))]
+fn constant_item(alloc: Global, tokens: &mut Cursor<'_>, room: usize) -> Result<VMitem, Stop>
+    ensures { Reads (spec.constant_item room tokens.old) result tokens.new }
+{
+    let word = tokens.constant_word(alloc)?;
+    let shape = Boxed::new(alloc, shape(alloc, tokens, room)?)?;
+    let first = Boxed::new(alloc, constant(alloc, tokens, room)?)?;
+    let more = next_constants(alloc, tokens, room)?;
+    let semi = tokens.mark(alloc, b";")?;
+    let (shape, first) = (shape.into_inner(), first.into_inner());
+    Ok(VMitem::Constants(word, shape, first, more, semi))
+}
+
+/// `"genvar" NAME {"," NAME} ";"`
+#[tactic(auto, unfolding(vlog_tree::specs::ReadModules::genvar_item))]
+fn genvar_item(alloc: Global, tokens: &mut Cursor<'_>) -> Result<VMitem, Stop>
+    ensures { Reads (spec.genvar_item tokens.old) result tokens.new }
+{
+    let word = tokens.word(alloc, b"genvar")?;
+    let first = tokens.name(alloc)?;
+    let more = next_names(alloc, tokens)?;
+    let semi = tokens.mark(alloc, b";")?;
+    Ok(VMitem::Genvars(word, first, more, semi))
+}
+
+/// `"assign" lval "=" expr {"," lval "=" expr} ";"`
+#[tactic(auto, unfolding(vlog_tree::specs::ReadModules::assign_item))]
+fn assign_item(alloc: Global, tokens: &mut Cursor<'_>, room: usize) -> Result<VMitem, Stop>
+    ensures { Reads (spec.assign_item room tokens.old) result tokens.new }
+{
+    let word = tokens.word(alloc, b"assign")?;
+    let first = Boxed::new(alloc, driver(alloc, tokens, room)?)?;
+    let more = next_drivers(alloc, tokens, room)?;
+    let semi = tokens.mark(alloc, b";")?;
+    let first = first.into_inner();
+    Ok(VMitem::Assigns(word, first, more, semi))
+}
+
+/// `"always" "@" event stmt`
+#[tactic(auto, unfolding(vlog_tree::specs::ReadModules::always_item))]
+fn always_item(alloc: Global, tokens: &mut Cursor<'_>, room: usize) -> Result<VMitem, Stop>
+    ensures { Reads (spec.always_item room tokens.old) result tokens.new }
+{
+    let word = tokens.word(alloc, b"always")?;
+    let at = tokens.mark(alloc, b"@")?;
+    let event = Boxed::new(alloc, event(alloc, tokens)?)?;
+    let stmt = stmt(alloc, tokens, room)?;
+    let event = event.into_inner();
+    Ok(VMitem::Always(word, at, event, stmt))
+}
+
+/// `"initial" stmt`
+#[tactic(auto, unfolding(vlog_tree::specs::ReadModules::initial_item))]
+fn initial_item(alloc: Global, tokens: &mut Cursor<'_>, room: usize) -> Result<VMitem, Stop>
+    ensures { Reads (spec.initial_item room tokens.old) result tokens.new }
+{
+    let word = tokens.word(alloc, b"initial")?;
+    let stmt = stmt(alloc, tokens, room)?;
+    Ok(VMitem::Initial(word, stmt))
+}
+
+/// A token that an item begins with.
+#[tactic(auto, using(crate::proofs::Begins::begins_any))]
+fn sees_mitem(tokens: &Cursor<'_>) -> bool
+    ensures { result ≡ sees spec.begins_mitem tokens.now }
+{
+    sees_dir(tokens)
+        | sees_net_kind(tokens)
+        | tokens.sees_constant_word()
+        | tokens.sees_word(b"genvar")
+        | tokens.sees_word(b"assign")
+        | tokens.sees_word(b"always")
+        | tokens.sees_word(b"initial")
+        | tokens.sees_word(b"generate")
+        | tokens.sees_name()
+        | tokens.sees_word(b"for")
+        | tokens.sees_word(b"if")
+}
+
+/// The item ends in an `if` without an `else`: the next `else` would be that one's.
+#[cycle(ends)]
+#[tactic(auto, using(crate::proofs::Ends::open_ports, crate::proofs::Ends::open_nets, crate::proofs::Ends::open_constants, crate::proofs::Ends::open_genvars, crate::proofs::Ends::open_assigns, crate::proofs::Ends::open_always, crate::proofs::Ends::open_initial, crate::proofs::Ends::open_generate, crate::proofs::Ends::open_instance, crate::proofs::Ends::open_for, crate::proofs::Ends::open_item_if, crate::proofs::Ends::open_item_else))]
+fn item_ends_open(item: &VMitem) -> bool
+    ensures { result ≡ trees.item_ends_open item.now }
+{
+    match item {
+        VMitem::If(_, _, None) => true,
+        VMitem::If(_, _, Some(other)) => body_ends_open(other.body.get()),
+        VMitem::Always(_, _, _, stmt) => ends_open(stmt),
+        VMitem::Initial(_, stmt) => ends_open(stmt),
+        VMitem::Ports(..) => false,
+        VMitem::Nets(..) => false,
+        VMitem::Constants(..) => false,
+        VMitem::Genvars(..) => false,
+        VMitem::Assigns(..) => false,
+        VMitem::Generate(..) => false,
+        VMitem::Instance(_) => false,
+        VMitem::For(..) => false,
+    }
+}
+
+/// The body ends in an `if` without an `else`: the next `else` would be that one's.
+#[cycle(ends)]
+#[tactic(auto, using(crate::proofs::Ends::open_body_item, crate::proofs::Ends::open_body_block))]
+fn body_ends_open(body: &VGbody) -> bool
+    ensures { result ≡ trees.body_ends_open body.now }
+{
+    match body {
+        VGbody::Item(item) => item_ends_open(item),
+        VGbody::Block(..) => false,
+    }
+}
+
+/// `{mitem}`
+#[cycle(mitem)]
+#[tactic(auto, using(parsing::proofs::Turns::many_start, parsing::proofs::Turns::many_ends, parsing::proofs::Turns::many_over, parsing::proofs::Turns::many_turns, parsing::proofs::Turns::many_fails), unfolding(vlog_tree::specs::ReadModules::mitems))]
+fn mitems(alloc: Global, tokens: &mut Cursor<'_>, inner: usize) -> Result<Items<VMitem>, Stop>
+    ensures { Reads (spec.mitems (spec.mitem inner) tokens.old) result tokens.new }
+{
+    let mut found = Items::new(alloc);
+    for _turn in 0..tokens.len() {
+        if !sees_mitem(tokens) {
+            return Ok(found);
+        }
+        found.push(mitem(alloc, tokens, inner)?)?;
+    }
+    Ok(found)
+}
+
+/// `"generate" {mitem} "endgenerate"`
+#[cycle(mitem)]
+#[tactic(auto, unfolding(vlog_tree::specs::ReadModules::region))]
+fn region(alloc: Global, tokens: &mut Cursor<'_>, inner: usize) -> Result<VMitem, Stop>
+    ensures { Reads (spec.region (spec.mitem inner) tokens.old) result tokens.new }
+{
+    let word = tokens.word(alloc, b"generate")?;
+    let items = mitems(alloc, tokens, inner)?;
+    let end = tokens.word(alloc, b"endgenerate")?;
+    Ok(VMitem::Generate(word, items, end))
+}
+
+/// `"begin" [":" NAME] {mitem} "end"`
+#[cycle(mitem)]
+#[tactic(auto, unfolding(vlog_tree::specs::ReadModules::body_block))]
+fn body_block(alloc: Global, tokens: &mut Cursor<'_>, inner: usize) -> Result<VGbody, Stop>
+    ensures { Reads (spec.body_block (spec.mitem inner) tokens.old) result tokens.new }
+{
+    let word = tokens.word(alloc, b"begin")?;
+    let label = any_label(alloc, tokens)?;
+    let items = mitems(alloc, tokens, inner)?;
+    let end = tokens.word(alloc, b"end")?;
+    Ok(VGbody::Block(word, label, items, end))
+}
+
+/// `"begin" ":" NAME {mitem} "end"`
+#[cycle(mitem)]
+#[tactic(auto, unfolding(vlog_tree::specs::ReadModules::named_block))]
+fn named_block(alloc: Global, tokens: &mut Cursor<'_>, inner: usize) -> Result<VGbody, Stop>
+    ensures { Reads (spec.named_block (spec.mitem inner) tokens.old) result tokens.new }
+{
+    let word = tokens.word(alloc, b"begin")?;
+    let label = label(alloc, tokens)?;
+    let items = mitems(alloc, tokens, inner)?;
+    let end = tokens.word(alloc, b"end")?;
+    Ok(VGbody::Block(word, Some(label), items, end))
+}
+
+/// The body of a loop, in a box.
+#[cycle(mitem)]
+fn loop_body(alloc: Global, tokens: &mut Cursor<'_>, inner: usize) -> Result<Boxed<VGbody>, Stop>
+    ensures { Reads (spec.named_block (spec.mitem inner) tokens.old) result tokens.new }
+{
+    Ok(Boxed::new(alloc, named_block(alloc, tokens, inner)?)?)
+}
+
+/// `"for" "(" NAME "=" expr ";" expr ";" NAME "=" expr ")" "begin" ":" NAME {mitem} "end"`
+#[cycle(mitem)]
+#[tactic(auto, unfolding(vlog_tree::specs::ReadModules::for_item))]
+fn for_item(
+    alloc: Global,
+    tokens: &mut Cursor<'_>,
+    room: usize,
+    inner: usize,
+) -> Result<VMitem, Stop>
+    ensures { Reads (spec.for_item room (spec.mitem inner) tokens.old) result tokens.new }
+{
+    let head = Boxed::new(alloc, for_head(alloc, tokens, room)?)?;
+    let body = loop_body(alloc, tokens, inner)?;
+    Ok(VMitem::For(head.into_inner(), body))
+}
+
+/// `mitem | "begin" [":" NAME] {mitem} "end"`
+#[cycle(mitem)]
+#[tactic(auto, unfolding(vlog_tree::specs::ReadModules::gbody))]
+fn gbody(alloc: Global, tokens: &mut Cursor<'_>, inner: usize) -> Result<VGbody, Stop>
+    ensures { Reads (spec.gbody (spec.mitem inner) tokens.old) result tokens.new }
+{
+    if tokens.sees_word(b"begin") {
+        return body_block(alloc, tokens, inner);
+    }
+    Ok(VGbody::Item(mitem(alloc, tokens, inner)?))
+}
+
+/// A body, in a box.
+#[cycle(mitem)]
+fn boxed_body(alloc: Global, tokens: &mut Cursor<'_>, inner: usize) -> Result<Boxed<VGbody>, Stop>
+    ensures { Reads (spec.gbody (spec.mitem inner) tokens.old) result tokens.new }
+{
+    Ok(Boxed::new(alloc, gbody(alloc, tokens, inner)?)?)
+}
+
+/// `"else" gbody`
+#[cycle(mitem)]
+#[tactic(auto, unfolding(vlog_tree::specs::ReadModules::gelse))]
+fn gelse(alloc: Global, tokens: &mut Cursor<'_>, inner: usize) -> Result<VGelse, Stop>
+    ensures { Reads (spec.gelse (spec.mitem inner) tokens.old) result tokens.new }
+{
+    let word = tokens.word(alloc, b"else")?;
+    let body = boxed_body(alloc, tokens, inner)?;
+    Ok(VGelse { word, body })
+}
+
+/// `["else" gbody]`, after this branch.
+#[cycle(mitem)]
+#[tactic(auto, unfolding(vlog_tree::specs::ReadModules::any_gelse))]
+fn any_gelse(
+    alloc: Global,
+    tokens: &mut Cursor<'_>,
+    inner: usize,
+    branch: &VGbody,
+) -> Result<Option<VGelse>, Stop>
+    ensures { Reads (spec.any_gelse (spec.mitem inner) branch.now tokens.old) result tokens.new }
+{
+    if body_ends_open(branch) || !tokens.sees_word(b"else") {
+        return Ok(None);
+    }
+    Ok(Some(gelse(alloc, tokens, inner)?))
+}
+
+/// `"if" "(" expr ")" gbody ["else" gbody]`
+#[cycle(mitem)]
+#[tactic(auto, unfolding(vlog_tree::specs::ReadModules::gconditional, vlog_tree::specs::ReadModules::gbranches))]
+fn gconditional(
+    alloc: Global,
+    tokens: &mut Cursor<'_>,
+    room: usize,
+    inner: usize,
+) -> Result<VMitem, Stop>
+    ensures { Reads (spec.gconditional room (spec.mitem inner) tokens.old) result tokens.new }
+{
+    let head = Boxed::new(alloc, if_head(alloc, tokens, room)?)?;
+    let branch = boxed_body(alloc, tokens, inner)?;
+    let other = any_gelse(alloc, tokens, inner, branch.get())?;
+    Ok(VMitem::If(head.into_inner(), branch, other))
+}
+
+/// An item with so much room for its expressions and statements and for the items in it.
+#[cycle(mitem)]
+#[tactic(auto, unfolding(vlog_tree::specs::ReadModules::mitem_of))]
+fn mitem_of(
+    alloc: Global,
+    tokens: &mut Cursor<'_>,
+    room: usize,
+    inner: usize,
+) -> Result<VMitem, Stop>
+    ensures { Reads (spec.mitem_of room (spec.mitem inner) tokens.old) result tokens.new }
+{
+    if sees_dir(tokens) {
+        return port_item(alloc, tokens, room);
+    }
+    if sees_net_kind(tokens) {
+        return net_item(alloc, tokens, room);
+    }
+    if tokens.sees_constant_word() {
+        return constant_item(alloc, tokens, room);
+    }
+    if tokens.sees_word(b"genvar") {
+        return genvar_item(alloc, tokens);
+    }
+    if tokens.sees_word(b"assign") {
+        return assign_item(alloc, tokens, room);
+    }
+    if tokens.sees_word(b"always") {
+        return always_item(alloc, tokens, room);
+    }
+    if tokens.sees_word(b"initial") {
+        return initial_item(alloc, tokens, room);
+    }
+    if tokens.sees_word(b"generate") {
+        return region(alloc, tokens, inner);
+    }
+    if tokens.sees_word(b"for") {
+        return for_item(alloc, tokens, room, inner);
+    }
+    if tokens.sees_word(b"if") {
+        return gconditional(alloc, tokens, room, inner);
+    }
+    Ok(VMitem::Instance(instance(alloc, tokens, room)?))
+}
+
+/// An item that nests down to so many levels.
+#[cycle(mitem)]
+#[tactic(auto, using(crate::proofs::Rooms::mitem_none, crate::proofs::Rooms::mitem_down))]
+fn mitem(alloc: Global, tokens: &mut Cursor<'_>, room: usize) -> Result<VMitem, Stop>
+    ensures { Reads (spec.mitem room tokens.old) result tokens.new }
+{
+    if room == 0 {
+        return Err(Stop::Sunk);
+    }
+    mitem_of(alloc, tokens, room, room - 1)
+}
+
+/// What stands behind the ports of a module.
+type ModuleEnd = (VToken, (Items<VMitem>, VToken));
+
+/// `";" {mitem} "endmodule"`
+fn module_end(alloc: Global, tokens: &mut Cursor<'_>, room: usize) -> Result<ModuleEnd, Stop>
+    ensures { Reads (seq (mark (codes ";")) (λ _. seq (spec.mitems (spec.mitem room)) (λ _. word (codes "endmodule"))) tokens.old) result tokens.new }
+{
+    let semi = tokens.mark(alloc, b";")?;
+    let items = mitems(alloc, tokens, room)?;
+    let end = tokens.word(alloc, b"endmodule")?;
+    Ok((semi, (items, end)))
+}
+
+/// `"module" NAME ["#" "(" pdec {"," pdec} ")"] ["(" [ports] ")"] ";" {mitem} "endmodule"`
+#[tactic(auto, unfolding(vlog_tree::specs::ReadModules::module_))]
+fn module(alloc: Global, tokens: &mut Cursor<'_>, room: usize) -> Result<VModule, Stop>
+    ensures { Reads (spec.module_ room tokens.old) result tokens.new }
+{
+    let word = tokens.word(alloc, b"module")?;
+    let name = tokens.name(alloc)?;
+    let parameters = Boxed::new(alloc, any_pdecs(alloc, tokens, room)?)?;
+    let ports = Boxed::new(alloc, any_port_list(alloc, tokens, room)?)?;
+    let (semi, (items, end)) = module_end(alloc, tokens, room)?;
+    let (parameters, ports) = (parameters.into_inner(), ports.into_inner());
+    Ok(VModule {
+        word,
+        name,
+        parameters,
+        ports,
+        semi,
+        items,
+        end,
+    })
+}
+
+/// `{module}`
+#[tactic(auto, using(parsing::proofs::Turns::many_start, parsing::proofs::Turns::many_ends, parsing::proofs::Turns::many_over, parsing::proofs::Turns::many_turns, parsing::proofs::Turns::many_fails), unfolding(vlog_tree::specs::ReadModules::modules))]
+fn modules(alloc: Global, tokens: &mut Cursor<'_>, room: usize) -> Result<Items<VModule>, Stop>
+    ensures { Reads (spec.modules room tokens.old) result tokens.new }
+{
+    let mut found = Items::new(alloc);
+    for _turn in 0..tokens.len() {
+        if !tokens.sees_word(b"module") {
+            return Ok(found);
+        }
+        found.push(module(alloc, tokens, room)?)?;
+    }
+    Ok(found)
+}
+
+/// `{module}` and the end, down to so many levels.
+#[tactic(auto, unfolding(vlog_tree::specs::ReadModules::source))]
+pub fn source(alloc: Global, tokens: &mut Cursor<'_>, room: usize) -> Result<Items<VModule>, Stop>
+    ensures { Reads (spec.source room tokens.old) result tokens.new }
+{
+    let found = modules(alloc, tokens, room)?;
+    tokens.finish()?;
+    Ok(found)
+}
