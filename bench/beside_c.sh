@@ -7,19 +7,10 @@
 # proved first.
 set -euo pipefail
 crate="$1" folder="$2" count="$3" unit="$4"
-here="$(cd "$(dirname "$0")" && pwd)"
-work="$(mktemp -d)"
-trap 'rm -rf "$work"' EXIT
-mkdir -p "$work/crates"
-cp "$here/../HANDLES" "$work/"
-cp -r "$here/../crates/$crate" "$work/crates/$crate"
-cp -r "$here/$folder" "$work/crates/${folder}_bench"
-# the gate reads every source file of the repository, so those of the program lie here as texts
-find "$work/crates/${folder}_bench" -name '*.txt' | while read -r text; do mv "$text" "${text%.txt}"; done
-grep "^$crate:" "$here/../crates.txt" > "$work/crates.txt"
-echo "${folder}_bench: $crate" >> "$work/crates.txt"
-(cd "$work/crates/${folder}_bench" && rt run --jobs 1 > "$work/first.txt")
-program="$(find "$work/crates/${folder}_bench/out" -maxdepth 1 -type f -perm -u+x -name "${folder}_bench*" | head -n 1)"
+. "$(dirname "$0")/copied.sh"
+copy_program "$folder" "$crate" "$crate"
+run_program "$folder" 1 > "$work/first.txt"
+program="$(built_program "$folder")"
 cc -O2 -march=x86-64-v2 -o "$work/in_c" "$here/$folder"/*.c
 
 # user seconds of the fastest of three runs

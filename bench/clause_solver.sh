@@ -6,21 +6,10 @@
 # Each run ends after 60,000 conflicts. minisat has no such limit: it ends after 20 seconds. So the whole
 # takes two or three minutes, after the program was proved, which may take some minutes more.
 set -euo pipefail
-here="$(cd "$(dirname "$0")" && pwd)"
-work="$(mktemp -d)"
-trap 'rm -rf "$work"' EXIT
-mkdir -p "$work/crates"
-cp "$here/../HANDLES" "$work/"
-for crate in lemma_checker watch_lists clause_solver; do
-    cp -r "$here/../crates/$crate" "$work/crates/$crate"
-    grep "^$crate:" "$here/../crates.txt" >> "$work/crates.txt"
-done
-cp -r "$here/clause_solver" "$work/crates/solver_bench"
-# the gate reads every source file of the repository, so those of the program lie here as texts
-find "$work/crates/solver_bench" -name '*.txt' | while read -r text; do mv "$text" "${text%.txt}"; done
-echo "solver_bench: clause_solver lemma_checker" >> "$work/crates.txt"
-(cd "$work/crates/solver_bench" && rt run --jobs 2 < /dev/null > "$work/first.txt")
-program="$(find "$work/crates/solver_bench/out" -maxdepth 1 -type f -perm -u+x -name "solver_bench*" | head -n 1)"
+. "$(dirname "$0")/copied.sh"
+copy_program clause_solver "clause_solver lemma_checker" lemma_checker watch_lists clause_solver
+run_program clause_solver 2 > "$work/first.txt"
+program="$(built_program clause_solver)"
 
 # more pigeons than holes, each pigeon in a hole and no two in the same one
 pigeons() {
