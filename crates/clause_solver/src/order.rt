@@ -12,7 +12,7 @@ use watch_lists::trail::Trail;
 const LIMIT: u64 = 0x4_0000_0000_0000;
 
 /// How many lemmas the shortest run between two restarts has.
-const RUN: u32 = 100;
+const RUN: u32 = 800;
 
 /// A heap of the variables by activity, with the place of each, counted from 1; their activities and
 /// their last values; and the plan of the next lemma.
@@ -189,8 +189,11 @@ impl Order {
         self.step = self.step / 0x4000_0000 + 1;
     }
 
-    /// Raises the activities of these literals' variables that got their values past the bottom level.
-    pub fn bump(&mut self, literals: &[Literal]) {
+    /// Raises the activities of the variables that the last walk touched, of these literals', where
+    /// they got their values past the bottom level. Those that only stand in the reasons of literals
+    /// that were resolved away after it are left as they are.
+    pub fn bump(&mut self, touched: &[Literal]) {
+        let literals = touched.get(..self.plan.analyzed).unwrap_or(touched);
         for literal in literals {
             let variable = literal.variable();
             if self.plan.level(*literal) > 0 {
@@ -203,7 +206,7 @@ impl Order {
                 }
             }
         }
-        self.step = self.step.saturating_add(self.step / 19);
+        self.step = self.step.saturating_add(self.step / 50);
         if self.step > LIMIT {
             self.shrink();
         }

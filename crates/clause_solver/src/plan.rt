@@ -11,12 +11,18 @@ use watch_lists::trail::Trail;
 /// How many places of the trail one level's search goes down at most.
 const REACH: u32 = 1_000;
 
+/// How many literals of one level are left as they are: where there are more, one is to stand for
+/// all of them. With fewer the lemmas get shorter still, but the search needs more of them.
+const FEW: usize = 4;
+
 /// By variable, the level at which it got its value and its place in the trail; the places of the
-/// literals to resolve away, the highest first; and what the search for them uses.
+/// literals to resolve away, the highest first; how many literals the walk itself touched; and what
+/// the search for the places uses.
 #[derive(Debug, Drop)]
 pub struct Plan {
     pub levels: Vec<u32>,
     pub drops: Vec<usize>,
+    pub analyzed: usize,
     spots: Vec<usize>,
     left: Vec<usize>,
     block: Vec<usize>,
@@ -53,6 +59,7 @@ impl Plan {
         Ok(Plan {
             levels,
             drops: Vec::new(alloc),
+            analyzed: 0,
             spots,
             left: Vec::new(alloc),
             block: Vec::new(alloc),
@@ -263,8 +270,9 @@ impl Plan {
         Ok(())
     }
 
-    /// Plans which of the marked literals that stand before `low` to resolve away: of each level all
-    /// but one, if no literal of another level comes in by that, else those that the others imply.
+    /// Plans which of the marked literals that stand before `low` to resolve away: of each level with
+    /// many of them all but one, if no literal of another level comes in by that, else those that the
+    /// others imply.
     pub fn make(
         &mut self,
         formula: &Clauses,
@@ -274,6 +282,7 @@ impl Plan {
         touched: &[Literal],
         low: usize,
     ) -> Result<(), AllocError> {
+        self.analyzed = touched.len();
         self.drops.clear();
         self.collect(seen, touched, low)?;
         for _ in 0..self.left.len() {
@@ -282,7 +291,7 @@ impl Plan {
             };
             let level = self.level(literal_at(trail, top));
             self.take_block(trail, level)?;
-            let many = self.block.len() > 1;
+            let many = self.block.len() > FEW;
             if !many || !self.try_one(formula, added, trail, seen, level, top)? {
                 self.thin(formula, added, trail, seen)?;
             }

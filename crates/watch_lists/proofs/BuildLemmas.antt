@@ -95,6 +95,9 @@ pub record IsLonger (ls new : List Literal) (ss more : List ℕ) (n : ℕ) (c : 
   pub table : IsTable new more
   pub old : (k : ℕ) → k + 1 < length ss → copy new more k ≡ copy ls ss k
   pub last : copy new more n ≡ c
+  pub same : (k : ℕ) → k < length ss → get_or more k 0 ≡ get_or ss k 0
+  pub start : get_or more n 0 ≡ length ls
+  pub end : get_or more (n + 1) 0 ≡ length new
 
 pub longer : (ls c : List Literal) (ss : List ℕ) (n : ℕ) → IsTable ls ss → length ss + 1 < 2 ^ 32 → n + 1 ≡ length ss → IsLonger ls (ls ++ c) ss (ss ++ length (ls ++ c) ∷ []) n c
 longer ls c ss n t few count = record {
@@ -103,13 +106,16 @@ longer ls c ss n t few count = record {
   table = table_push ls c ss t few;
   old = λ k lt. copy_old ls c ss (length (ls ++ c)) k t lt;
   last = copy_new ls c ss n t count;
+  same = λ k lt. get_or_append_left ss (length (ls ++ c) ∷ []) 0 k lt;
+  start = let back : length ss - 1 ≡ n = omega arith in get_or_append_left ss (length (ls ++ c) ∷ []) 0 n (omega arith) ∙ (ap (λ (m : ℕ). get_or ss m 0) (sym back) ∙ t.last);
+  end = get_or_push ss (length (ls ++ c)) 0 (n + 1) (sym count);
 }
 
 cases_clause : (ls new : List Literal) (ss more : List ℕ) (n k : ℕ) (c : List Literal) → IsLonger ls new ss more n c → k + 1 < length more → (k + 1 < length ss) ⊎ (k ≡ n)
 cases_clause ls new ss more n k c g lt = elim (cases_lt (k + 1) (length ss)) [ inl early ↦ inl early | inr late ↦ inr (omega (arith, g.long, g.count)) ]
 
 -- the watches with a clause more, in lists that name it where it is watched
-pub watches_push : (ls new : List Literal) (ss more : List ℕ) (ws next : List (List Watch)) (n : ℕ) (c : List Literal) → IsLonger ls new ss more n c → AreWatches ls ss ws → length next ≡ length ws → ((l : ℕ) → has l c ≡ true → 2 ≤ l) → ((l : ℕ) → has l c ≡ true → l < length ws) → (2 ≤ length c → AreTwo c) → ((k x : ℕ) → names k (list_at ws x) ≡ true → names k (list_at next x) ≡ true) → ((x : ℕ) → 2 ≤ length c → has x (take 2 c) ≡ true → names n (list_at next x) ≡ true) → ((l j : ℕ) (w : Watch) → slice_get (list_at next l) j ≡ Some w → (IsEntry ls ss w) ⊎ ((w.clause ≡ n) × (2 ≤ length c) × (has w.blocker.0 c ≡ true))) → AreWatches new more next
+pub watches_push : (ls new : List Literal) (ss more : List ℕ) (ws next : List (List Watch)) (n : ℕ) (c : List Literal) → IsLonger ls new ss more n c → AreWatches ls ss ws → length next ≡ length ws → ((l : ℕ) → has l c ≡ true → 2 ≤ l) → ((l : ℕ) → has l c ≡ true → l < length ws) → (2 ≤ length c → AreTwo c) → ((k x : ℕ) → names k (list_at ws x) ≡ true → names k (list_at next x) ≡ true) → ((x : ℕ) → 2 ≤ length c → has x (take 2 c) ≡ true → names n (list_at next x) ≡ true) → ((l j : ℕ) (w : Watch) → slice_get (list_at next l) j ≡ Some w → (IsEntry ls ss w) ⊎ ((w.clause ≡ n) × (2 ≤ length c) × (has w.blocker.0 c ≡ true) × (w.start ≡ length ls) × (w.end ≡ length new))) → AreWatches new more next
 watches_push ls new ss more ws next n c g w size low high two kept named entries = record {
   table = g.table;
   even = ap (λ (m : ℕ). m % 2) size ∙ w.even;
@@ -130,8 +136,8 @@ watches_push ls new ss more ws next n c g w size low high two kept named entries
     | inr e ↦ let same : copy new more k ≡ c = ap (copy new more) e ∙ g.last in ap (λ (m : ℕ). names m (list_at next x)) e ∙ named x (omega (arith, long, ap length same)) (ap (λ (d : List Literal). has x (take 2 d)) (sym same) ∙ h)
   ];
   entries = λ l j v is. elim (entries l j v is) [
-    | inl old ↦ record { below = omega (arith, old.below, g.long); long = omega (arith, old.long, ap length (g.old v.clause old.below)); member = ap (has v.blocker.0) (g.old v.clause old.below) ∙ old.member }
-    | inr e ↦ let same : copy new more v.clause ≡ c = ap (copy new more) e.0 ∙ g.last in record { below = omega (arith, e.0, g.count, g.long); long = omega (arith, e.1, ap length same); member = ap (has v.blocker.0) same ∙ e.2 }
+    | inl old ↦ record { start = old.start ∙ sym (g.same v.clause (omega (arith, old.below))); end = old.end ∙ sym (g.same (v.clause + 1) old.below); below = omega (arith, old.below, g.long); long = omega (arith, old.long, ap length (g.old v.clause old.below)); member = ap (has v.blocker.0) (g.old v.clause old.below) ∙ old.member }
+    | inr e ↦ let same : copy new more v.clause ≡ c = ap (copy new more) e.0 ∙ g.last in record { start = e.3 ∙ (sym g.start ∙ ap (λ (m : ℕ). get_or more m 0) (sym e.0)); end = e.4 ∙ (sym g.end ∙ ap (λ (m : ℕ). get_or more (m + 1) 0) (sym e.0)); below = omega (arith, e.0, g.count, g.long); long = omega (arith, e.1, ap length same); member = ap (has v.blocker.0) same ∙ e.2 }
   ];
 }
 
@@ -199,8 +205,8 @@ both_length : (ws : List (List Watch)) (f s : ℕ) (w v : Watch) → length (wit
 both_length ws f s w v = length-set (set ws f (list_at ws f ++ w ∷ [])) s (list_at ws s ++ v ∷ []) ∙ length-set ws f (list_at ws f ++ w ∷ [])
 
 -- the watches with a clause more that is watched at two literals
-pub watches_long : (ls new : List Literal) (ss more : List ℕ) (ws : List (List Watch)) (n : ℕ) (c : List Literal) (f s : Literal) (w v : Watch) → IsLonger ls new ss more n (with_first c f s) → AreWatches ls ss ws → has f.0 c ≡ true → has s.0 c ≡ true → f.0 ≢ s.0 → ((l : ℕ) → has l c ≡ true → 2 ≤ l) → ((l : ℕ) → has l c ≡ true → l < length ws) → w.clause ≡ n → w.blocker ≡ s → v.clause ≡ n → v.blocker ≡ f → AreWatches new more (with_both ws f.0 s.0 w v)
-watches_long ls new ss more ws n c f s w v g old f_in s_in away low high w_clause w_blocker v_clause v_blocker =
+pub watches_long : (ls new : List Literal) (ss more : List ℕ) (ws : List (List Watch)) (n : ℕ) (c : List Literal) (f s : Literal) (w v : Watch) → IsLonger ls new ss more n (with_first c f s) → AreWatches ls ss ws → has f.0 c ≡ true → has s.0 c ≡ true → f.0 ≢ s.0 → ((l : ℕ) → has l c ≡ true → 2 ≤ l) → ((l : ℕ) → has l c ≡ true → l < length ws) → w.clause ≡ n → w.blocker ≡ s → w.start ≡ length ls → w.end ≡ length new → v.clause ≡ n → v.blocker ≡ f → v.start ≡ length ls → v.end ≡ length new → AreWatches new more (with_both ws f.0 s.0 w v)
+watches_long ls new ss more ws n c f s w v g old f_in s_in away low high w_clause w_blocker w_start w_end v_clause v_blocker v_start v_end =
     let d : List Literal = with_first c f s in
     let lt_f : f.0 < length ws = high f.0 f_in in
     let lt_s : s.0 < length ws = high s.0 s_in in
@@ -221,12 +227,12 @@ watches_long ls new ss more ws n c f s w v g old f_in s_in away low high w_claus
     (λ l j u is. elim (cases_eq l s.0) [
       | inl e ↦ elim (get_push (list_at ws s.0) v j u (ap (λ (q : List Watch). slice_get q j) (sym (both_second ws f.0 s.0 w v lt_s)) ∙ (ap (λ (y : ℕ). slice_get (list_at (with_both ws f.0 s.0 w v) y) j) (sym e) ∙ is))) [
         | inl before ↦ inl (old.entries s.0 j u before)
-        | inr last ↦ inr (ap (λ (z : Watch). z.clause) last.1 ∙ v_clause, long, ap (λ (z : Watch). has z.blocker.0 d) last.1 ∙ (ap (λ (z : Literal). has z.0 d) v_blocker ∙ (with_first_has c f s f_in s_in f.0 ∙ f_in)))
+        | inr last ↦ inr (ap (λ (z : Watch). z.clause) last.1 ∙ v_clause, long, ap (λ (z : Watch). has z.blocker.0 d) last.1 ∙ (ap (λ (z : Literal). has z.0 d) v_blocker ∙ (with_first_has c f s f_in s_in f.0 ∙ f_in)), ap (λ (z : Watch). z.start) last.1 ∙ v_start, ap (λ (z : Watch). z.end) last.1 ∙ v_end)
       ]
       | inr not_s ↦ elim (cases_eq l f.0) [
         | inl e ↦ elim (get_push (list_at ws f.0) w j u (ap (λ (q : List Watch). slice_get q j) (sym (both_first ws f.0 s.0 w v lt_f away)) ∙ (ap (λ (y : ℕ). slice_get (list_at (with_both ws f.0 s.0 w v) y) j) (sym e) ∙ is))) [
           | inl before ↦ inl (old.entries f.0 j u before)
-          | inr last ↦ inr (ap (λ (z : Watch). z.clause) last.1 ∙ w_clause, long, ap (λ (z : Watch). has z.blocker.0 d) last.1 ∙ (ap (λ (z : Literal). has z.0 d) w_blocker ∙ (with_first_has c f s f_in s_in s.0 ∙ s_in)))
+          | inr last ↦ inr (ap (λ (z : Watch). z.clause) last.1 ∙ w_clause, long, ap (λ (z : Watch). has z.blocker.0 d) last.1 ∙ (ap (λ (z : Literal). has z.0 d) w_blocker ∙ (with_first_has c f s f_in s_in s.0 ∙ s_in)), ap (λ (z : Watch). z.start) last.1 ∙ w_start, ap (λ (z : Watch). z.end) last.1 ∙ w_end)
         ]
         | inr not_f ↦ inl (old.entries l j u (ap (λ (q : List Watch). slice_get q j) (sym (both_other ws f.0 s.0 l w v not_f not_s)) ∙ is))
       ]

@@ -47,7 +47,7 @@ names_step k ws i w is h =
 -- a watch of the same clause is put in place
 pub names_set : (k : ℕ) (ws : List Watch) (i : ℕ) (v w : Watch) → slice_get ws i ≡ Some v → w.clause ≡ v.clause → names k (set ws i w) ≡ names k ws
 names_set k [] i v w is e = refl
-names_set k (x ∷ ws) zero v w is e = let same : x ≡ v = cc in ap (λ (n : ℕ). names k (record { clause = n; blocker = w.blocker } ∷ ws)) (e ∙ ap (λ (z : Watch). z.clause) (sym same))
+names_set k (x ∷ ws) zero v w is e = let same : x ≡ v = cc in ap (λ (n : ℕ). names k (record { clause = n; blocker = w.blocker; start = w.start; end = w.end } ∷ ws)) (e ∙ ap (λ (z : Watch). z.clause) (sym same))
 names_set k (x ∷ ws) (suc i) v w is e = ap (λ (b : Bool). eqb x.clause k || b) (names_set k ws i v w is e)
 
 pub element_set : (ws : List Watch) (i j : ℕ) (v w : Watch) → slice_get (set ws i v) j ≡ Some w → (w ≡ v) ⊎ (slice_get ws j ≡ Some w)

@@ -1,9 +1,9 @@
 -- One look at a watch: what it leaves of the watches and of the trail.
-use Rattle.std.proofs.Common.{◌≡◌, ◌≢◌, ℕ, ◌+◌, ◌-◌, ◌%◌, ◌<◌, ◌≤◌, ◌⊎◌, Bool, true, false, not, eqb, List, [], ◌∷◌, ◌++◌, length, take, drop, get_or, set, Some, slice_get, refl, ap, ◌∙◌, sym, subst, inl, inr, arith, true≢false, length-set, eq-eqb}
+use Rattle.std.proofs.Common.{◌≡◌, ◌≢◌, ℕ, zero, suc, ◌+◌, ◌-◌, ◌%◌, ◌<◌, ◌≤◌, ◌⊎◌, Bool, true, false, not, eqb, List, [], ◌∷◌, ◌++◌, length, take, drop, get_or, set, Some, slice_get, refl, ap, ◌∙◌, sym, subst, inl, inr, arith, true≢false, length-set, eq-eqb}
 use Rattle.std.specs.List.{swap_remove, count_by}
 use Rattle.watch_lists.proofs.TrailLemmas.{fewer_false}
 use Rattle.std.proofs.lemmas.Bool.{cases_eq, cases_lt, or_cases, or_left, or_right, eqb-true}
-use Rattle.std.proofs.lemmas.Option.{slice_get_within}
+use Rattle.std.proofs.lemmas.Option.{slice_get_within, slice_get-get_or}
 use Rattle.std.proofs.lemmas.List.{take_all, take_at, take_more, get_or_past, drop_all, drop-set-lt, length_push, get_or_append_left}
 use Rattle.lemma_checker.specs.declared.literal.Literal.{Literal}
 use Rattle.lemma_checker.specs.Clauses.{opposite, has, set_of, at}
@@ -47,7 +47,7 @@ watches_next starts ls new ws next k w long_ls long_ws order others listed entri
       high = λ j l lt h. omega (arith, long_ws, w.high j l lt (ap (λ (f : ℕ → Bool). f l) (sym (copies.same j lt)) ∙ h));
       two = two_next starts ls new k order.two others w.two;
       listed = listed;
-      entries = λ l j v is. let e : IsEntry ls starts v = entries l j v is in record { below = e.below; long = omega (arith, e.long, copies.long v.clause e.below); member = ap (λ (f : ℕ → Bool). f v.blocker.0) (copies.same v.clause e.below) ∙ e.member };
+      entries = λ l j v is. let e : IsEntry ls starts v = entries l j v is in record { below = e.below; start = e.start; end = e.end; long = omega (arith, e.long, copies.long v.clause e.below); member = ap (λ (f : ℕ → Bool). f v.blocker.0) (copies.same v.clause e.below) ∙ e.member };
     }
 
 -- the watches of each clause, where one copy keeps its two
@@ -112,6 +112,25 @@ ahead_blocked starts ls ws t f i v p is holds = record {
   less = less_next (list_at ws f) i v is;
 }
 
+-- the literals of so many watches are true
+passing_run : (starts : List ℕ) (ls : List Literal) (ws : List (List Watch)) (t : Trail) (f i n : ℕ) → IsPassing ls starts ws t f i → i + n ≤ length (list_at ws f) → ((j : ℕ) (w : Watch) → i ≤ j → j < i + n → slice_get (list_at ws f) j ≡ Some w → at t.values.items w.blocker.0 ≡ true) → IsPassing ls starts ws t f (i + n)
+passing_run starts ls ws t f i zero p le holds = let e : i ≡ i + 0 = omega arith in subst (IsPassing ls starts ws t f) e p
+passing_run starts ls ws t f i (suc n) p le holds =
+    let v : Watch = get_or (list_at ws f) (i + n) (record { clause = 0; blocker = record { 0 = 0 }; start = 0; end = 0 }) in
+    let is : slice_get (list_at ws f) (i + n) ≡ Some v = slice_get-get_or (list_at ws f) (i + n) (record { clause = 0; blocker = record { 0 = 0 }; start = 0; end = 0 }) (omega arith) in
+    let before : IsPassing ls starts ws t f (i + n) = passing_run starts ls ws t f i n p (omega arith) (λ j w past lt at_j. holds j w past (omega arith) at_j) in
+    let e : i + n + 1 ≡ i + suc n = omega arith in
+    subst (IsPassing ls starts ws t f) e ((ahead_blocked starts ls ws t f (i + n) v before is (holds (i + n) v (omega arith) (omega arith) is)).passing)
+
+pub ahead_run : (starts : List ℕ) (ls : List Literal) (ws : List (List Watch)) (t : Trail) (f i next : ℕ) (v : Watch) → IsPassing ls starts ws t f i → slice_get (list_at ws f) i ≡ Some v → at t.values.items v.blocker.0 ≡ true → i + 1 ≤ next → next ≤ length (list_at ws f) → ((j : ℕ) (w : Watch) → i + 1 ≤ j → j < next → slice_get (list_at ws f) j ≡ Some w → at t.values.items w.blocker.0 ≡ true) → IsAhead (list_at ws f) i ls starts ws t f next
+ahead_run starts ls ws t f i next v p is holds past le run =
+    let one : IsAhead (list_at ws f) i ls starts ws t f (i + 1) = ahead_blocked starts ls ws t f i v p is holds in
+    let e : i + 1 + (next - (i + 1)) ≡ next = omega arith in
+    record {
+      passing = subst (IsPassing ls starts ws t f) e (passing_run starts ls ws t f (i + 1) (next - (i + 1)) one.passing (omega arith) (λ j w from lt at_j. run j w from (omega arith) at_j));
+      less = let lt : i < length (list_at ws f) = slice_get_within (list_at ws f) i v is in omega arith;
+    }
+
 -- the clause is not watched here
 pub ahead_away : (starts : List ℕ) (ls new : List Literal) (ws : List (List Watch)) (t : Trail) (f i : ℕ) (v : Watch) → IsLooked starts ls new ws t f i v → IsAway f (copy ls starts v.clause) (copy new starts v.clause) → IsAhead (list_at ws f) i new starts ws t f (i + 1)
 ahead_away starts ls new ws t f i v l a = record {
@@ -174,8 +193,8 @@ stopped starts ls new ws t f i v l lost = record {
 }
 
 -- a literal of it is true
-pub ahead_met : (starts : List ℕ) (ls new : List Literal) (ws : List (List Watch)) (t : Trail) (f i : ℕ) (v w : Watch) → IsLooked starts ls new ws t f i v → IsMet w.blocker.0 (copy ls starts v.clause) (copy new starts v.clause) (at t.values.items) → w.clause ≡ v.clause → f < length ws → IsAhead (list_at ws f) i new starts (set ws f (set (list_at ws f) i w)) t f (i + 1)
-ahead_met starts ls new ws t f i v w l met number lt =
+pub ahead_met : (starts : List ℕ) (ls new : List Literal) (ws : List (List Watch)) (t : Trail) (f i : ℕ) (v w : Watch) → IsLooked starts ls new ws t f i v → IsMet w.blocker.0 (copy ls starts v.clause) (copy new starts v.clause) (at t.values.items) → w.clause ≡ v.clause → w.start ≡ v.start → w.end ≡ v.end → f < length ws → IsAhead (list_at ws f) i new starts (set ws f (set (list_at ws f) i w)) t f (i + 1)
+ahead_met starts ls new ws t f i v w l met number start end lt =
     let next : List (List Watch) = set ws f (set (list_at ws f) i w) in
     let old : AreWatches ls starts ws = l.passing.watching.watches in
     let here : list_at next f ≡ set (list_at ws f) i w = list_same ws f (set (list_at ws f) i w) lt in
@@ -186,7 +205,7 @@ ahead_met starts ls new ws t f i v w l met number lt =
       | inl e ↦ ap (λ (y : ℕ). names j (list_at next y)) e ∙ (ap (names j) here ∙ (names_set j (list_at ws f) i v w l.is number ∙ ap (λ (y : ℕ). names j (list_at ws y)) (sym e)))
       | inr away ↦ ap (names j) (list_other ws f x (set (list_at ws f) i w) away)
     ] in
-    let entry_kept : IsEntry ls starts w = record { below = subst (λ (n : ℕ). n + 1 < length starts) (sym number) (old.entries f i v l.is).below; long = subst (λ (n : ℕ). 2 ≤ length (copy ls starts n)) (sym number) (old.entries f i v l.is).long; member = subst (λ (n : ℕ). has w.blocker.0 (copy ls starts n) ≡ true) (sym number) (ap (λ (g : ℕ → Bool). g w.blocker.0) (sym met.facing.order.same) ∙ met.member) } in
+    let entry_kept : IsEntry ls starts w = record { start = start ∙ ((old.entries f i v l.is).start ∙ ap (λ (n : ℕ). get_or starts n 0) (sym number)); end = end ∙ ((old.entries f i v l.is).end ∙ ap (λ (n : ℕ). get_or starts (n + 1) 0) (sym number)); below = subst (λ (n : ℕ). n + 1 < length starts) (sym number) (old.entries f i v l.is).below; long = subst (λ (n : ℕ). 2 ≤ length (copy ls starts n)) (sym number) (old.entries f i v l.is).long; member = subst (λ (n : ℕ). has w.blocker.0 (copy ls starts n) ≡ true) (sym number) (ap (λ (g : ℕ → Bool). g w.blocker.0) (sym met.facing.order.same) ∙ met.member) } in
     record {
       passing = record {
         watching = record {
@@ -208,8 +227,8 @@ ahead_met starts ls new ws t f i v w l met number lt =
     }
 
 -- it is watched at another literal now
-pub ahead_moved : (starts : List ℕ) (ls new : List Literal) (ws : List (List Watch)) (t : Trail) (f i to : ℕ) (v w : Watch) → IsLooked starts ls new ws t f i v → IsMoved f to w.blocker.0 (copy ls starts v.clause) (copy new starts v.clause) (at t.values.items) → w.clause ≡ v.clause → f < length ws → to < length ws → to ≢ f → IsAhead (list_at ws f) i new starts (set (set ws to (list_at ws to ++ w ∷ [])) f (swap_remove (list_at ws f) i w)) t f i
-ahead_moved starts ls new ws t f i to v w l moved number lt lt_to apart =
+pub ahead_moved : (starts : List ℕ) (ls new : List Literal) (ws : List (List Watch)) (t : Trail) (f i to : ℕ) (v w : Watch) → IsLooked starts ls new ws t f i v → IsMoved f to w.blocker.0 (copy ls starts v.clause) (copy new starts v.clause) (at t.values.items) → w.clause ≡ v.clause → w.start ≡ v.start → w.end ≡ v.end → f < length ws → to < length ws → to ≢ f → IsAhead (list_at ws f) i new starts (set (set ws to (list_at ws to ++ w ∷ [])) f (swap_remove (list_at ws f) i w)) t f i
+ahead_moved starts ls new ws t f i to v w l moved number start end lt lt_to apart =
     let k : ℕ = v.clause in
     let old : AreWatches ls starts ws = l.passing.watching.watches in
     let mid : List (List Watch) = set ws to (list_at ws to ++ w ∷ []) in
@@ -227,7 +246,7 @@ ahead_moved starts ls new ws t f i to v w l moved number lt lt_to apart =
       | inl e ↦ ap (names j) (there x away e) ∙ names_push_old j (list_at ws to) w (ap (λ (y : ℕ). names j (list_at ws y)) (sym e) ∙ h)
       | inr far ↦ ap (names j) (elsewhere x away far) ∙ h
     ] in
-    let entry_new : IsEntry ls starts w = record { below = subst (λ (n : ℕ). n + 1 < length starts) (sym number) (old.entries f i v l.is).below; long = subst (λ (n : ℕ). 2 ≤ length (copy ls starts n)) (sym number) (old.entries f i v l.is).long; member = subst (λ (n : ℕ). has w.blocker.0 (copy ls starts n) ≡ true) (sym number) (ap (λ (g : ℕ → Bool). g w.blocker.0) (sym moved.order.same) ∙ moved.second) } in
+    let entry_new : IsEntry ls starts w = record { start = start ∙ ((old.entries f i v l.is).start ∙ ap (λ (n : ℕ). get_or starts n 0) (sym number)); end = end ∙ ((old.entries f i v l.is).end ∙ ap (λ (n : ℕ). get_or starts (n + 1) 0) (sym number)); below = subst (λ (n : ℕ). n + 1 < length starts) (sym number) (old.entries f i v l.is).below; long = subst (λ (n : ℕ). 2 ≤ length (copy ls starts n)) (sym number) (old.entries f i v l.is).long; member = subst (λ (n : ℕ). has w.blocker.0 (copy ls starts n) ≡ true) (sym number) (ap (λ (g : ℕ → Bool). g w.blocker.0) (sym moved.order.same) ∙ moved.second) } in
     record {
       passing = record {
         watching = record {

@@ -50,14 +50,16 @@ pub record AreTwo (c : List Literal) : Type 0 where
 abbrev pub watched_at : List Literal → List ℕ → ℕ → ℕ → Bool
 watched_at literals starts k x = has x (take 2 (copy literals starts k))
 
--- the watch names a clause of two literals or more, and one of its literals
+-- the watch names a clause of two literals or more, where its copy starts and ends, and one of its literals
 pub record IsEntry (literals : List Literal) (starts : List ℕ) (w : Watch) : Type 0 where
   pub below : w.clause + 1 < length starts
   pub long : 2 ≤ length (copy literals starts w.clause)
+  pub start : w.start ≡ slice_index_or starts w.clause 0
+  pub end : w.end ≡ slice_index_or starts (w.clause + 1) 0
   pub member : has w.blocker.0 (copy literals starts w.clause) ≡ true
 
 -- each clause of the table has its copy, and one of two literals or more is listed at the first two, which differ.
--- A watch names such a clause and one of its literals.
+-- A watch names such a clause, its place and one of its literals.
 pub record AreWatches (literals : List Literal) (starts : List ℕ) (lists : List (List Watch)) : Type 0 where
   pub table : IsTable literals starts
   pub even : length lists % 2 ≡ 0

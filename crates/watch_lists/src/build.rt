@@ -59,26 +59,34 @@ fn add_copy(
     }
 }
 
-/// Lists a clause at two literals, or at neither.
+/// Lists a clause, whose copy starts and ends at these places, at two literals, or at neither.
 fn list_both(
     lists: &mut [Vec<Watch>],
     clause: u32,
+    start: usize,
+    end: usize,
     first: Literal,
     second: Literal,
 ) -> Result<(), AllocError>
     requires first { first.0 < length lists.old }
     requires second { second.0 < length lists.old }
     requires different { first.0 ≢ second.0 }
-    ensures lists { OnOk result (lists_of lists.new ≡ with_both (lists_of lists.old) first.0 second.0 (record { clause = clause; blocker = second }) (record { clause = clause; blocker = first })) }
+    ensures lists { OnOk result (lists_of lists.new ≡ with_both (lists_of lists.old) first.0 second.0 (record { clause = clause; blocker = second; start = start; end = end }) (record { clause = clause; blocker = first; start = start; end = end })) }
     ensures err { OnErr result (lists_of lists.new ≡ lists_of lists.old) }
 {
-    lists[first.0 as usize].push(Watch {
+    if start > 0xffff_ffff || end > 0xffff_ffff {
+        return Err(AllocError);
+    }
+    let watch = Watch {
         clause,
         blocker: second,
-    })?;
+        start: start as u32,
+        end: end as u32,
+    };
+    lists[first.0 as usize].push(watch)?;
     let other = Watch {
-        clause,
         blocker: first,
+        ..watch
     };
     match lists[second.0 as usize].push(other) {
         Ok(()) => Ok(()),
@@ -155,12 +163,12 @@ fn add_long(
     requires different { first.0 ≢ second.0 }
     ensures literals { OnOk result (literals.new.items ≡ literals.old.items ++ with_first clause.now first second) }
     ensures starts { OnOk result (starts.new.items ≡ starts.old.items ++ length literals.new.items ∷ []) }
-    ensures lists { OnOk result (lists_of lists.new ≡ with_both (lists_of lists.old) first.0 second.0 (record { clause = number; blocker = second }) (record { clause = number; blocker = first })) }
+    ensures lists { OnOk result (lists_of lists.new ≡ with_both (lists_of lists.old) first.0 second.0 (record { clause = number; blocker = second; start = length literals.old.items; end = length literals.new.items }) (record { clause = number; blocker = first; start = length literals.old.items; end = length literals.new.items })) }
     ensures err { OnErr result ((literals.new.items ≡ literals.old.items) × ((starts.new.items ≡ starts.old.items) × (lists_of lists.new ≡ lists_of lists.old))) }
 {
     let before = literals.len();
     add_copy(literals, starts, clause, first, second)?;
-    match list_both(lists, number, first, second) {
+    match list_both(lists, number, before, literals.len(), first, second) {
         Ok(()) => Ok(()),
         Err(_) => {
             literals.truncate(before);
@@ -193,7 +201,7 @@ impl Watches {
     }
 
     /// Adds a clause under the next number. One of two literals or more is watched at these two.
-    /// Without memory, or past 2^32 - 2 clauses, nothing is added.
+    /// Without memory, or past 2^32 - 2 clauses or 2^32 - 1 literals, nothing is added.
     pub fn add(
         &mut self,
         clause: &[Literal],

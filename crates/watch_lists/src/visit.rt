@@ -3,7 +3,8 @@
 ghost use Rattle.std.specs.Prelude.{◌≡◌, ◌≢◌, ℕ, ◌+◌, ◌-◌, ◌^◌, ◌<◌, ◌≤◌, Bool, true, false, List, [], ◌∷◌, ◌++◌, length, take, Option, Some, None, OnOk, IfOk, IfSome, IfNone, slice_get, slice_set};
 ghost use Rattle.std.specs.List.{swap_remove};
 ghost use Rattle.lemma_checker.specs.Clauses.{at, set_of, has, opposite};
-ghost use Rattle.watch_lists.specs.Watching.{copy, lists_of, list_at, literal_at, AreTwo, IsTable};
+ghost use Rattle.watch_lists.specs.Watching.{copy, lists_of, list_at, literal_at, AreTwo, IsTable, IsEntry};
+ghost use Rattle.watch_lists.specs.declared.watch.Watch.{Watch};
 ghost use Rattle.watch_lists.specs.Looks.{FoundIs};
 ghost use Rattle.watch_lists.specs.Visits.{IsPassing, IsGrown, StepIs, PassedIs};
 
@@ -62,24 +63,45 @@ fn set_watch(lists: &mut [Vec<Watch>], list: usize, i: usize, watch: Watch)
     lists[list][i] = watch;
 }
 
-/// Looks at the copy of a clause of which a literal became false.
+/// Looks at the copy of the watch's clause, of which a literal became false.
 fn look_at_copy(
     literals: &mut [Literal],
     starts: &[usize],
-    clause: u32,
+    watch: Watch,
     denied: Literal,
     values: &[bool],
 ) -> Found
     requires table { IsTable literals.old starts.now }
-    requires below { clause + 1 < length starts.now }
-    requires two { AreTwo (copy literals.old starts.now clause) }
+    requires entry { IsEntry literals.old starts.now watch }
+    requires two { AreTwo (copy literals.old starts.now watch.clause) }
     requires denied { at values.now (opposite denied.0) ≡ true }
-    ensures found { FoundIs result denied.0 (copy literals.old starts.now clause) (copy literals.new starts.now clause) (at values.now) }
-    ensures others { (j : ℕ) → j + 1 < length starts.now → j ≢ clause → copy literals.new starts.now j ≡ copy literals.old starts.now j }
+    ensures found { FoundIs result denied.0 (copy literals.old starts.now watch.clause) (copy literals.new starts.now watch.clause) (at values.now) }
+    ensures others { (j : ℕ) → j + 1 < length starts.now → j ≢ watch.clause → copy literals.new starts.now j ≡ copy literals.old starts.now j }
 {
-    let place = clause as usize;
-    let copy = &mut literals[starts[place]..starts[place + 1]];
+    let copy = &mut literals[watch.start as usize..watch.end as usize];
     look_at(copy, denied, values)
+}
+
+/// The watches of a list.
+fn watches_of(lists: &[Vec<Watch>], list: usize) -> &[Watch]
+    requires list { list < length lists.now }
+    ensures { result.now ≡ list_at (lists_of lists.now) list }
+{
+    lists[list].as_slice()
+}
+
+/// The first place from this one on whose watch's literal isn't true; the end, if there is none.
+fn next_open(watches: &[Watch], values: &[bool], start: usize) -> usize
+    requires within { start ≤ length watches.now }
+    ensures past { start ≤ result }
+    ensures within { result ≤ length watches.now }
+    ensures blocked { (j : ℕ) (w : Watch) → start ≤ j → j < result → slice_get watches.now j ≡ Some w → at values.now w.blocker.0 ≡ true }
+{
+    let mut i = start;
+    while i < watches.len() && is_marked(values, watches[i].blocker.0 as usize) {
+        i += 1;
+    }
+    i
 }
 
 /// Looks at the watch at place i of the literal's list, where the literal became false.
@@ -101,24 +123,24 @@ fn visit_watch(
     let list = denied.0 as usize;
     let watch = watch_at(lists, list, i);
     if is_marked(trail.values.as_slice(), watch.blocker.0 as usize) {
-        return Ok(Step::At(i + 1));
+        let next = next_open(watches_of(lists, list), trail.values.as_slice(), i + 1);
+        return Ok(Step::At(next));
     }
-    let clause = watch.clause;
-    match look_at_copy(literals, starts, clause, denied, trail.values.as_slice()) {
+    match look_at_copy(literals, starts, watch, denied, trail.values.as_slice()) {
         Found::Away => Ok(Step::At(i + 1)),
         Found::Met(blocker) => {
-            set_watch(lists, list, i, Watch { clause, blocker });
+            set_watch(lists, list, i, Watch { blocker, ..watch });
             Ok(Step::At(i + 1))
         }
         Found::Moved(to, blocker) => {
-            move_watch(lists, denied, i, to, Watch { clause, blocker })?;
+            move_watch(lists, denied, i, to, Watch { blocker, ..watch })?;
             Ok(Step::At(i))
         }
         Found::Forced(literal) => {
-            trail.push(literal, clause + 1)?;
+            trail.push(literal, watch.clause + 1)?;
             Ok(Step::At(i + 1))
         }
-        Found::False => Ok(Step::Conflict(clause + 1)),
+        Found::False => Ok(Step::Conflict(watch.clause + 1)),
     }
 }
 

@@ -1,8 +1,8 @@
-use Rattle.std.proofs.Common.{◌<◌, length, refl, sym, ap, ◌∙◌, arith}
+use Rattle.std.proofs.Common.{◌<◌, length, slice_get, refl, sym, ap, ◌∙◌, arith}
 use Rattle.lemma_checker.specs.Clauses.{at}
 use Rattle.watch_lists.specs.Watching.{lists_of, copy}
 use Rattle.watch_lists.specs.Looks.{IsMet, IsMoved, IsLast, IsLost}
-use Rattle.watch_lists.proofs.VisitLemmas.{IsLooked, ahead_blocked, ahead_away, ahead_met, ahead_moved, ahead_forced, grown_none, grown_forced, stopped, same_copies, copies_next, denied_now, moved_apart, listed_below}
+use Rattle.watch_lists.proofs.VisitLemmas.{IsLooked, ahead_run, ahead_away, ahead_met, ahead_moved, ahead_forced, grown_none, grown_forced, stopped, same_copies, copies_next, denied_now, moved_apart, listed_below}
 use Rattle.watch_lists.proofs.WatchLists.{length_lists}
 use Rattle.watch_lists.proofs.visit.visit_watch.Goals as goal
 
@@ -10,10 +10,12 @@ pub returns-then-is_marked-clause-grown : goal.returns-then-is_marked-clause-gro
 returns-then-is_marked-clause-grown c = grown_none c.args.starts.now c.args.literals.now c.args.literals.now (lists_of c.args.lists.now) c.args.trail.now c.args.trail.now c.requires.passing.watching (same_copies c.args.starts.now c.args.literals.now) refl
 
 pub returns-then-is_marked-clause-step : goal.returns-then-is_marked-clause-step
-returns-then-is_marked-clause-step c = ahead_blocked c.args.starts.now c.args.literals.now (lists_of c.args.lists.now) c.args.trail.now c.args.denied.0 c.args.i c.watch_at-watch.result c.requires.passing c.watch_at-watch.ensures.read (ap (λ v. at v c.watch_at-watch.result.blocker.0) (sym c.as_slice.ensures.value) ∙ (sym c.is_marked.ensures ∙ c.if-is_marked.true))
+returns-then-is_marked-clause-step c =
+    let all = c.watches_of.ensures in
+    ahead_run c.args.starts.now c.args.literals.now (lists_of c.args.lists.now) c.args.trail.now c.args.denied.0 c.args.i c.next_open-next.result c.watch_at-watch.result c.requires.passing c.watch_at-watch.ensures.read (ap (λ v. at v c.watch_at-watch.result.blocker.0) (sym c.as_slice.ensures.value) ∙ (sym c.is_marked.ensures ∙ c.if-is_marked.true)) c.next_open-next.ensures.past (omega (arith, c.next_open-next.ensures.within, ap length all)) (λ j w from lt at_j. ap (λ v. at v w.blocker.0) (sym c.as_slice-then-is_marked.ensures.value) ∙ c.next_open-next.ensures.blocked j w from lt (ap (λ q. slice_get q j) all ∙ at_j))
 
-pub look_at_copy-requires-clause-below : goal.look_at_copy-requires-clause-below
-look_at_copy-requires-clause-below c = (c.requires.passing.watching.watches.entries c.args.denied.0 c.args.i c.watch_at-watch.result c.watch_at-watch.ensures.read).below
+pub look_at_copy-requires-clause-entry : goal.look_at_copy-requires-clause-entry
+look_at_copy-requires-clause-entry c = c.requires.passing.watching.watches.entries c.args.denied.0 c.args.i c.watch_at-watch.result c.watch_at-watch.ensures.read
 
 pub look_at_copy-requires-clause-two : goal.look_at_copy-requires-clause-two
 look_at_copy-requires-clause-two c =
@@ -54,7 +56,7 @@ returns-in-Met-clause-step c =
     let looked : IsLooked c.args.starts.now c.args.literals.now c.look_at_copy.new.literals (lists_of c.args.lists.now) c.args.trail.now c.args.denied.0 c.args.i c.watch_at-watch.result = record { passing = c.requires.passing; is = c.watch_at-watch.ensures.read; long = c.look_at_copy.auto.literals; others = c.look_at_copy.ensures.others } in
     let met : IsMet c.in-Met.blocker.0 (copy c.args.literals.now c.args.starts.now c.watch_at-watch.result.clause) (copy c.look_at_copy.new.literals c.args.starts.now c.watch_at-watch.result.clause) (at c.args.trail.now.values.items) = rw (sym c.as_slice-2.ensures.value) c.in-Met.ensures.found in
     let lt : c.args.denied.0 < length (lists_of c.args.lists.now) = omega (arith, c.requires.list, length_lists c.args.lists.now) in
-    rw c.set_watch.ensures (ahead_met c.args.starts.now c.args.literals.now c.look_at_copy.new.literals (lists_of c.args.lists.now) c.args.trail.now c.args.denied.0 c.args.i c.watch_at-watch.result (record { clause = c.watch_at-watch.result.clause; blocker = c.in-Met.blocker }) looked met refl lt)
+    rw c.set_watch.ensures (ahead_met c.args.starts.now c.args.literals.now c.look_at_copy.new.literals (lists_of c.args.lists.now) c.args.trail.now c.args.denied.0 c.args.i c.watch_at-watch.result (record { clause = c.watch_at-watch.result.clause; blocker = c.in-Met.blocker; start = c.watch_at-watch.result.start; end = c.watch_at-watch.result.end }) looked met refl refl refl lt)
 
 pub returns-in_ok-move_watch-in-Moved-clause-grown : goal.returns-in_ok-move_watch-in-Moved-clause-grown
 returns-in_ok-move_watch-in-Moved-clause-grown c = grown_none c.args.starts.now c.args.literals.now c.look_at_copy.new.literals (lists_of c.args.lists.now) c.args.trail.now c.args.trail.now c.requires.passing.watching (copies_next c.args.starts.now c.args.literals.now c.look_at_copy.new.literals c.watch_at-watch.result.clause c.in-Moved.ensures.found.order c.in-Moved.ensures.others) refl
@@ -65,7 +67,7 @@ returns-in_ok-move_watch-in-Moved-clause-step c =
     let moved : IsMoved c.args.denied.0 c.in-Moved.to.0 c.in-Moved.blocker.0 (copy c.args.literals.now c.args.starts.now c.watch_at-watch.result.clause) (copy c.look_at_copy.new.literals c.args.starts.now c.watch_at-watch.result.clause) (at c.args.trail.now.values.items) = rw (sym c.as_slice-2.ensures.value) c.in-Moved.ensures.found in
     let lt : c.args.denied.0 < length (lists_of c.args.lists.now) = omega (arith, c.requires.list, length_lists c.args.lists.now) in
     let lt_to : c.in-Moved.to.0 < length (lists_of c.args.lists.now) = listed_below c.args.starts.now c.args.literals.now c.look_at_copy.new.literals (lists_of c.args.lists.now) c.args.trail.now c.args.denied.0 c.args.i c.in-Moved.to.0 c.watch_at-watch.result c.requires.passing c.watch_at-watch.ensures.read moved.order moved.member in
-    rw c.in_ok-move_watch-in-Moved.ensures (ahead_moved c.args.starts.now c.args.literals.now c.look_at_copy.new.literals (lists_of c.args.lists.now) c.args.trail.now c.args.denied.0 c.args.i c.in-Moved.to.0 c.watch_at-watch.result (record { clause = c.watch_at-watch.result.clause; blocker = c.in-Moved.blocker }) looked moved refl lt lt_to (moved_apart c.args.starts.now c.args.literals.now (lists_of c.args.lists.now) c.args.trail.now c.args.denied.0 c.args.i c.in-Moved.to.0 c.requires.passing moved.free))
+    rw c.in_ok-move_watch-in-Moved.ensures (ahead_moved c.args.starts.now c.args.literals.now c.look_at_copy.new.literals (lists_of c.args.lists.now) c.args.trail.now c.args.denied.0 c.args.i c.in-Moved.to.0 c.watch_at-watch.result (record { clause = c.watch_at-watch.result.clause; blocker = c.in-Moved.blocker; start = c.watch_at-watch.result.start; end = c.watch_at-watch.result.end }) looked moved refl refl refl lt lt_to (moved_apart c.args.starts.now c.args.literals.now (lists_of c.args.lists.now) c.args.trail.now c.args.denied.0 c.args.i c.in-Moved.to.0 c.requires.passing moved.free))
 
 pub returns-in_ok-push-in-Forced-clause-grown : goal.returns-in_ok-push-in-Forced-clause-grown
 returns-in_ok-push-in-Forced-clause-grown c =

@@ -84,8 +84,8 @@ returns-in_ok-add_long-clause-sound c =
     let two : 2 ≤ length c.args.clause.now = omega (arith, c.if-clause-lt2.false) in
     let pair : ArePair c.args.clause.now c.args.first.0 c.args.second.0 = c.requires.pair two in
     let at_lists : v.lists.items ≡ c.add_long.new.lists = with_items_is w.lists c.add_long.new.lists (c.add_long.auto.lists ∙ c.as_mut_slice.ensures.len) in
-    let lists : lists_of v.lists.items ≡ with_both (lists_of w.lists.items) c.args.first.0 c.args.second.0 (record { clause = n; blocker = c.args.second }) (record { clause = n; blocker = c.args.first }) = ap lists_of at_lists ∙ (rw c.as_mut_slice.ensures.value at c.in_ok-add_long.ensures.lists) in
-    let watches : AreWatches v.literals.items v.starts.items (lists_of v.lists.items) = rw lists (watches_long w.literals.items v.literals.items w.starts.items v.starts.items (lists_of w.lists.items) n c.args.clause.now c.args.first c.args.second (record { clause = n; blocker = c.args.second }) (record { clause = n; blocker = c.args.first }) g c.requires.sound.watches pair.first_in pair.second_in pair.different c.requires.over.low (λ l h. omega (arith, c.requires.over.high l h, length_lists w.lists.items)) refl refl refl refl) in
+    let lists : lists_of v.lists.items ≡ with_both (lists_of w.lists.items) c.args.first.0 c.args.second.0 (record { clause = n; blocker = c.args.second; start = length w.literals.items; end = length v.literals.items }) (record { clause = n; blocker = c.args.first; start = length w.literals.items; end = length v.literals.items }) = ap lists_of at_lists ∙ (rw c.as_mut_slice.ensures.value at c.in_ok-add_long.ensures.lists) in
+    let watches : AreWatches v.literals.items v.starts.items (lists_of v.lists.items) = rw lists (watches_long w.literals.items v.literals.items w.starts.items v.starts.items (lists_of w.lists.items) n c.args.clause.now c.args.first c.args.second (record { clause = n; blocker = c.args.second; start = length w.literals.items; end = length v.literals.items }) (record { clause = n; blocker = c.args.first; start = length w.literals.items; end = length v.literals.items }) g c.requires.sound.watches pair.first_in pair.second_in pair.different c.requires.over.low (λ l h. omega (arith, c.requires.over.high l h, length_lists w.lists.items)) refl refl refl refl refl refl refl refl) in
     let short : AreShort v.literals.items v.starts.items v.short.items = short_same w.literals.items v.literals.items w.starts.items v.starts.items w.short.items n d g (omega arith) c.requires.sound.short in
     let sound : AreSound v = record { watches = watches; short = short; looked = c.requires.sound.looked } in
     let same : set_of d ≡ set_of c.args.clause.now = fun_ext (with_first_has c.args.clause.now c.args.first c.args.second pair.first_in pair.second_in) in
@@ -107,8 +107,8 @@ returns-in_ok-add_long-clause-holds c =
     let two : 2 ≤ length c.args.clause.now = omega (arith, c.if-clause-lt2.false) in
     let pair : ArePair c.args.clause.now c.args.first.0 c.args.second.0 = c.requires.pair two in
     let at_lists : v.lists.items ≡ c.add_long.new.lists = with_items_is w.lists c.add_long.new.lists (c.add_long.auto.lists ∙ c.as_mut_slice.ensures.len) in
-    let lists : lists_of v.lists.items ≡ with_both (lists_of w.lists.items) c.args.first.0 c.args.second.0 (record { clause = n; blocker = c.args.second }) (record { clause = n; blocker = c.args.first }) = ap lists_of at_lists ∙ (rw c.as_mut_slice.ensures.value at c.in_ok-add_long.ensures.lists) in
-    let watches : AreWatches v.literals.items v.starts.items (lists_of v.lists.items) = rw lists (watches_long w.literals.items v.literals.items w.starts.items v.starts.items (lists_of w.lists.items) n c.args.clause.now c.args.first c.args.second (record { clause = n; blocker = c.args.second }) (record { clause = n; blocker = c.args.first }) g c.requires.sound.watches pair.first_in pair.second_in pair.different c.requires.over.low (λ l h. omega (arith, c.requires.over.high l h, length_lists w.lists.items)) refl refl refl refl) in
+    let lists : lists_of v.lists.items ≡ with_both (lists_of w.lists.items) c.args.first.0 c.args.second.0 (record { clause = n; blocker = c.args.second; start = length w.literals.items; end = length v.literals.items }) (record { clause = n; blocker = c.args.first; start = length w.literals.items; end = length v.literals.items }) = ap lists_of at_lists ∙ (rw c.as_mut_slice.ensures.value at c.in_ok-add_long.ensures.lists) in
+    let watches : AreWatches v.literals.items v.starts.items (lists_of v.lists.items) = rw lists (watches_long w.literals.items v.literals.items w.starts.items v.starts.items (lists_of w.lists.items) n c.args.clause.now c.args.first c.args.second (record { clause = n; blocker = c.args.second; start = length w.literals.items; end = length v.literals.items }) (record { clause = n; blocker = c.args.first; start = length w.literals.items; end = length v.literals.items }) g c.requires.sound.watches pair.first_in pair.second_in pair.different c.requires.over.low (λ l h. omega (arith, c.requires.over.high l h, length_lists w.lists.items)) refl refl refl refl refl refl refl refl) in
     let short : AreShort v.literals.items v.starts.items v.short.items = short_same w.literals.items v.literals.items w.starts.items v.starts.items w.short.items n d g (omega arith) c.requires.sound.short in
     let sound : AreSound v = record { watches = watches; short = short; looked = c.requires.sound.looked } in
     let same : set_of d ≡ set_of c.args.clause.now = fun_ext (with_first_has c.args.clause.now c.args.first c.args.second pair.first_in pair.second_in) in
@@ -130,8 +130,8 @@ returns-in_ok-add_long-clause-fits c =
     let two : 2 ≤ length c.args.clause.now = omega (arith, c.if-clause-lt2.false) in
     let pair : ArePair c.args.clause.now c.args.first.0 c.args.second.0 = c.requires.pair two in
     let at_lists : v.lists.items ≡ c.add_long.new.lists = with_items_is w.lists c.add_long.new.lists (c.add_long.auto.lists ∙ c.as_mut_slice.ensures.len) in
-    let lists : lists_of v.lists.items ≡ with_both (lists_of w.lists.items) c.args.first.0 c.args.second.0 (record { clause = n; blocker = c.args.second }) (record { clause = n; blocker = c.args.first }) = ap lists_of at_lists ∙ (rw c.as_mut_slice.ensures.value at c.in_ok-add_long.ensures.lists) in
-    let watches : AreWatches v.literals.items v.starts.items (lists_of v.lists.items) = rw lists (watches_long w.literals.items v.literals.items w.starts.items v.starts.items (lists_of w.lists.items) n c.args.clause.now c.args.first c.args.second (record { clause = n; blocker = c.args.second }) (record { clause = n; blocker = c.args.first }) g c.requires.sound.watches pair.first_in pair.second_in pair.different c.requires.over.low (λ l h. omega (arith, c.requires.over.high l h, length_lists w.lists.items)) refl refl refl refl) in
+    let lists : lists_of v.lists.items ≡ with_both (lists_of w.lists.items) c.args.first.0 c.args.second.0 (record { clause = n; blocker = c.args.second; start = length w.literals.items; end = length v.literals.items }) (record { clause = n; blocker = c.args.first; start = length w.literals.items; end = length v.literals.items }) = ap lists_of at_lists ∙ (rw c.as_mut_slice.ensures.value at c.in_ok-add_long.ensures.lists) in
+    let watches : AreWatches v.literals.items v.starts.items (lists_of v.lists.items) = rw lists (watches_long w.literals.items v.literals.items w.starts.items v.starts.items (lists_of w.lists.items) n c.args.clause.now c.args.first c.args.second (record { clause = n; blocker = c.args.second; start = length w.literals.items; end = length v.literals.items }) (record { clause = n; blocker = c.args.first; start = length w.literals.items; end = length v.literals.items }) g c.requires.sound.watches pair.first_in pair.second_in pair.different c.requires.over.low (λ l h. omega (arith, c.requires.over.high l h, length_lists w.lists.items)) refl refl refl refl refl refl refl refl) in
     let short : AreShort v.literals.items v.starts.items v.short.items = short_same w.literals.items v.literals.items w.starts.items v.starts.items w.short.items n d g (omega arith) c.requires.sound.short in
     let sound : AreSound v = record { watches = watches; short = short; looked = c.requires.sound.looked } in
     let same : set_of d ≡ set_of c.args.clause.now = fun_ext (with_first_has c.args.clause.now c.args.first c.args.second pair.first_in pair.second_in) in
