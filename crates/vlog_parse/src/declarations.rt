@@ -62,13 +62,17 @@ fn range(alloc: Global, tokens: &mut Cursor<'_>, room: usize) -> Result<VRange, 
 }
 
 /// `["[" expr ":" expr "]"]`
-fn any_range(alloc: Global, tokens: &mut Cursor<'_>, room: usize) -> Result<Option<VRange>, Stop>
+fn any_range(
+    alloc: Global,
+    tokens: &mut Cursor<'_>,
+    room: usize,
+) -> Result<Option<Boxed<VRange>>, Stop>
     ensures { Reads (optional (is_mark (codes "[")) (spec.range room) tokens.old) result tokens.new }
 {
     if !tokens.sees_mark(b"[") {
         return Ok(None);
     }
-    Ok(Some(range(alloc, tokens, room)?))
+    Ok(Some(Boxed::new(alloc, range(alloc, tokens, room)?)?))
 }
 
 /// `["signed"]`
@@ -97,7 +101,7 @@ fn assigned(alloc: Global, tokens: &mut Cursor<'_>, room: usize) -> Result<VAssi
     ensures { Reads (spec.assigned room tokens.old) result tokens.new }
 {
     let equals = tokens.mark(alloc, b"=")?;
-    let value = expression(alloc, tokens, room)?;
+    let value = boxed(alloc, tokens, room)?;
     Ok(VAssigned { equals, value })
 }
 
@@ -161,7 +165,7 @@ pub fn constant(alloc: Global, tokens: &mut Cursor<'_>, room: usize) -> Result<V
 {
     let name = tokens.name(alloc)?;
     let equals = tokens.mark(alloc, b"=")?;
-    let value = expression(alloc, tokens, room)?;
+    let value = boxed(alloc, tokens, room)?;
     Ok(VConstant {
         name,
         equals,
@@ -205,9 +209,9 @@ pub fn driver(alloc: Global, tokens: &mut Cursor<'_>, room: usize) -> Result<VDr
 {
     let left = boxed_left(alloc, tokens, room)?;
     let equals = tokens.mark(alloc, b"=")?;
-    let value = expression(alloc, tokens, room)?;
+    let value = boxed(alloc, tokens, room)?;
     Ok(VDriver {
-        left: left.into_inner(),
+        left,
         equals,
         value,
     })
@@ -568,13 +572,17 @@ fn conns(alloc: Global, tokens: &mut Cursor<'_>, room: usize) -> Result<VConns, 
 }
 
 /// `[conns]`
-fn any_conns(alloc: Global, tokens: &mut Cursor<'_>, room: usize) -> Result<Option<VConns>, Stop>
+fn any_conns(
+    alloc: Global,
+    tokens: &mut Cursor<'_>,
+    room: usize,
+) -> Result<Option<Boxed<VConns>>, Stop>
     ensures { Reads (optional spec.begins_conns (spec.conns room) tokens.old) result tokens.new }
 {
     if !sees_conns(tokens) {
         return Ok(None);
     }
-    Ok(Some(conns(alloc, tokens, room)?))
+    Ok(Some(Boxed::new(alloc, conns(alloc, tokens, room)?)?))
 }
 
 /// `"#" "(" conns ")"`
@@ -599,24 +607,24 @@ fn any_overrides(
     alloc: Global,
     tokens: &mut Cursor<'_>,
     room: usize,
-) -> Result<Option<VOverrides>, Stop>
+) -> Result<Option<Boxed<VOverrides>>, Stop>
     ensures { Reads (optional (is_mark (codes "#")) (spec.overrides room) tokens.old) result tokens.new }
 {
     if !tokens.sees_mark(b"#") {
         return Ok(None);
     }
-    Ok(Some(overrides(alloc, tokens, room)?))
+    Ok(Some(Boxed::new(alloc, overrides(alloc, tokens, room)?)?))
 }
 
 /// What stands behind the name of an instance.
-type InstanceEnd = (VToken, (Boxed<Option<VConns>>, (VToken, VToken)));
+type InstanceEnd = (VToken, (Option<Boxed<VConns>>, (VToken, VToken)));
 
 /// `"(" [conns] ")" ";"`
 fn instance_end(alloc: Global, tokens: &mut Cursor<'_>, room: usize) -> Result<InstanceEnd, Stop>
     ensures { Reads (seq (mark (codes "(")) (λ _. seq (optional spec.begins_conns (spec.conns room)) (λ _. seq (mark (codes ")")) (λ _. mark (codes ";")))) tokens.old) result tokens.new }
 {
     let open = tokens.mark(alloc, b"(")?;
-    let conns = Boxed::new(alloc, any_conns(alloc, tokens, room)?)?;
+    let conns = any_conns(alloc, tokens, room)?;
     let close = tokens.mark(alloc, b")")?;
     let semi = tokens.mark(alloc, b";")?;
     Ok((open, (conns, (close, semi))))
@@ -628,10 +636,9 @@ pub fn instance(alloc: Global, tokens: &mut Cursor<'_>, room: usize) -> Result<V
     ensures { Reads (spec.instance room tokens.old) result tokens.new }
 {
     let module_name = tokens.name(alloc)?;
-    let overrides = Boxed::new(alloc, any_overrides(alloc, tokens, room)?)?;
+    let overrides = any_overrides(alloc, tokens, room)?;
     let name = tokens.name(alloc)?;
     let (open, (conns, (close, semi))) = instance_end(alloc, tokens, room)?;
-    let (conns, overrides) = (conns.into_inner(), overrides.into_inner());
     Ok(VInstance {
         module_name,
         overrides,
@@ -667,7 +674,6 @@ pub fn for_head(alloc: Global, tokens: &mut Cursor<'_>, room: usize) -> Result<V
     let start = Boxed::new(alloc, constant(alloc, tokens, room)?)?;
     let first_semi = tokens.mark(alloc, b";")?;
     let (test, (second_semi, (step, close))) = for_end(alloc, tokens, room)?;
-    let (test, step, start) = (test.into_inner(), step.into_inner(), start.into_inner());
     Ok(VForHead {
         word,
         open,

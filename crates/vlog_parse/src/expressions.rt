@@ -217,18 +217,28 @@ fn prim(alloc: Global, tokens: &mut Cursor<'_>, room: usize) -> Result<VPrim, St
     call(alloc, tokens, room)
 }
 
-/// `prim | unop expr`, the operand of a unary operator being another such one.
+/// A primary in a box.
+#[cycle(expr)]
+#[inline(never)]
+fn boxed_prim(alloc: Global, tokens: &mut Cursor<'_>, room: usize) -> Result<Boxed<VPrim>, Stop>
+    ensures { Reads (spec.prim (spec.expr room) tokens.old) result tokens.new }
+{
+    Ok(Boxed::new(alloc, prim(alloc, tokens, room)?)?)
+}
+
+/// `prim | unop expr`, the operand of a unary operator being another such one, in a box.
 #[cycle(expr)]
 #[tactic(auto, unfolding(vlog_tree::specs::ReadExpressions::operand_of))]
-fn operand_of(alloc: Global, tokens: &mut Cursor<'_>, room: usize) -> Result<VExpr, Stop>
+fn operand_of(alloc: Global, tokens: &mut Cursor<'_>, room: usize) -> Result<Boxed<VExpr>, Stop>
     ensures { Reads (spec.operand_of (spec.operand room) (spec.expr room) tokens.old) result tokens.new }
 {
     if tokens.sees_unary() {
         let operator = tokens.unary(alloc)?;
         let again = operand(alloc, tokens, room)?;
-        return Ok(VExpr::Unary(operator, again));
+        return Ok(Boxed::new(alloc, VExpr::Unary(operator, again))?);
     }
-    Ok(VExpr::Prim(prim(alloc, tokens, room)?))
+    let prim = boxed_prim(alloc, tokens, room)?;
+    Ok(Boxed::new(alloc, VExpr::Prim(prim))?)
 }
 
 /// An operand in a box, down to so many levels.
@@ -240,7 +250,7 @@ fn operand(alloc: Global, tokens: &mut Cursor<'_>, room: usize) -> Result<Boxed<
     if room == 0 {
         return Err(Stop::Sunk);
     }
-    Ok(Boxed::new(alloc, operand_of(alloc, tokens, room - 1)?)?)
+    operand_of(alloc, tokens, room - 1)
 }
 
 /// A binary operator of this level and the operand after it.
@@ -298,7 +308,7 @@ fn upto(
     ensures { Reads (spec.upto (spec.operand_of (spec.operand room) (spec.expr room)) level tokens.old) result tokens.new }
 {
     if level == 0 {
-        return Ok(Boxed::new(alloc, operand_of(alloc, tokens, room)?)?);
+        return operand_of(alloc, tokens, room);
     }
     chained(alloc, tokens, room, level)
 }

@@ -1,13 +1,16 @@
 //! Modules and their items, which hold items.
 
-ghost use Rattle.std.specs.Prelude.{◌≡◌, codes};
-ghost use Rattle.parsing.specs.Parser.{sees, seq};
+ghost use Rattle.std.specs.Prelude.{◌≡◌, IfOk, IfErr, codes};
+ghost use Rattle.parsing.specs.Parser.{sees, seq, form};
 ghost use Rattle.parsing.specs.Reads.{Reads};
+ghost use Rattle.parsing.specs.declared.stop.Stop.TheVariants.{Memory};
 ghost use Rattle.vlog_tree.specs.Modules as trees;
+ghost use Rattle.vlog_tree.specs.declared.tree_modules.VGbody.TheVariants as the_body;
+ghost use Rattle.vlog_tree.specs.declared.tree_modules.VMitem.TheVariants as the_item;
 ghost use Rattle.vlog_tree.specs.ReadExpressions.{mark, word};
 ghost use Rattle.vlog_tree.specs.ReadModules as spec;
 
-use crate::cursor::Cursor;
+use crate::cursor::{Cursor, DEEPEST_ITEM};
 use crate::declarations::{
     any_pdecs, any_port_list, constant, driver, for_head, instance, kind, net, next_constants,
     next_drivers, next_names, next_nets, port_head, sees_dir, sees_net_kind, shape,
@@ -18,23 +21,26 @@ use sqlite_items::{Boxed, Items};
 use std::alloc::Global;
 use vlog_tree::token::VToken;
 use vlog_tree::tree_modules::{VGbody, VGelse, VMitem, VModule};
+use vlog_tree::tree_statements::VIfHead;
 
 /// `dir [kind] type NAME {"," NAME} ";"`
+#[inline(never)]
 #[tactic(auto, unfolding(vlog_tree::specs::ReadModules::port_item))]
-fn port_item(alloc: Global, tokens: &mut Cursor<'_>, room: usize) -> Result<VMitem, Stop>
+fn port_item(alloc: Global, tokens: &mut Cursor<'_>, room: usize) -> Result<Boxed<VMitem>, Stop>
     ensures { Reads (spec.port_item room tokens.old) result tokens.new }
 {
     let head = Boxed::new(alloc, port_head(alloc, tokens, room)?)?;
     let first = tokens.name(alloc)?;
     let more = next_names(alloc, tokens)?;
     let semi = tokens.mark(alloc, b";")?;
-    let head = head.into_inner();
-    Ok(VMitem::Ports(head, first, more, semi))
+    let whole = VMitem::Ports(head.into_inner(), first, more, semi);
+    Ok(Boxed::new(alloc, whole)?)
 }
 
 /// `kind type NAME ["=" expr] {"," NAME ["=" expr]} ";"`
+#[inline(never)]
 #[tactic(auto, unfolding(vlog_tree::specs::ReadModules::net_item))]
-fn net_item(alloc: Global, tokens: &mut Cursor<'_>, room: usize) -> Result<VMitem, Stop>
+fn net_item(alloc: Global, tokens: &mut Cursor<'_>, room: usize) -> Result<Boxed<VMitem>, Stop>
     ensures { Reads (spec.net_item room tokens.old) result tokens.new }
 {
     let kind = kind(alloc, tokens)?;
@@ -43,12 +49,14 @@ fn net_item(alloc: Global, tokens: &mut Cursor<'_>, room: usize) -> Result<VMite
     let more = next_nets(alloc, tokens, room)?;
     let semi = tokens.mark(alloc, b";")?;
     let (shape, first) = (shape.into_inner(), first.into_inner());
-    Ok(VMitem::Nets(kind, shape, first, more, semi))
+    let whole = VMitem::Nets(kind, shape, first, more, semi);
+    Ok(Boxed::new(alloc, whole)?)
 }
 
 /// `("parameter" | "localparam") type NAME "=" expr {"," NAME "=" expr} ";"`
+#[inline(never)]
 #[tactic(auto, unfolding(vlog_tree::specs::ReadModules::constant_item))]
-fn constant_item(alloc: Global, tokens: &mut Cursor<'_>, room: usize) -> Result<VMitem, Stop>
+fn constant_item(alloc: Global, tokens: &mut Cursor<'_>, room: usize) -> Result<Boxed<VMitem>, Stop>
     ensures { Reads (spec.constant_item room tokens.old) result tokens.new }
 {
     let word = tokens.constant_word(alloc)?;
@@ -57,55 +65,69 @@ fn constant_item(alloc: Global, tokens: &mut Cursor<'_>, room: usize) -> Result<
     let more = next_constants(alloc, tokens, room)?;
     let semi = tokens.mark(alloc, b";")?;
     let (shape, first) = (shape.into_inner(), first.into_inner());
-    Ok(VMitem::Constants(word, shape, first, more, semi))
+    let whole = VMitem::Constants(word, shape, first, more, semi);
+    Ok(Boxed::new(alloc, whole)?)
 }
 
 /// `"genvar" NAME {"," NAME} ";"`
+#[inline(never)]
 #[tactic(auto, unfolding(vlog_tree::specs::ReadModules::genvar_item))]
-fn genvar_item(alloc: Global, tokens: &mut Cursor<'_>) -> Result<VMitem, Stop>
+fn genvar_item(alloc: Global, tokens: &mut Cursor<'_>) -> Result<Boxed<VMitem>, Stop>
     ensures { Reads (spec.genvar_item tokens.old) result tokens.new }
 {
     let word = tokens.word(alloc, b"genvar")?;
     let first = tokens.name(alloc)?;
     let more = next_names(alloc, tokens)?;
     let semi = tokens.mark(alloc, b";")?;
-    Ok(VMitem::Genvars(word, first, more, semi))
+    Ok(Boxed::new(alloc, VMitem::Genvars(word, first, more, semi))?)
 }
 
 /// `"assign" lval "=" expr {"," lval "=" expr} ";"`
+#[inline(never)]
 #[tactic(auto, unfolding(vlog_tree::specs::ReadModules::assign_item))]
-fn assign_item(alloc: Global, tokens: &mut Cursor<'_>, room: usize) -> Result<VMitem, Stop>
+fn assign_item(alloc: Global, tokens: &mut Cursor<'_>, room: usize) -> Result<Boxed<VMitem>, Stop>
     ensures { Reads (spec.assign_item room tokens.old) result tokens.new }
 {
     let word = tokens.word(alloc, b"assign")?;
     let first = Boxed::new(alloc, driver(alloc, tokens, room)?)?;
     let more = next_drivers(alloc, tokens, room)?;
     let semi = tokens.mark(alloc, b";")?;
-    let first = first.into_inner();
-    Ok(VMitem::Assigns(word, first, more, semi))
+    let whole = VMitem::Assigns(word, first.into_inner(), more, semi);
+    Ok(Boxed::new(alloc, whole)?)
 }
 
 /// `"always" "@" event stmt`
+#[inline(never)]
 #[tactic(auto, unfolding(vlog_tree::specs::ReadModules::always_item))]
-fn always_item(alloc: Global, tokens: &mut Cursor<'_>, room: usize) -> Result<VMitem, Stop>
+fn always_item(alloc: Global, tokens: &mut Cursor<'_>, room: usize) -> Result<Boxed<VMitem>, Stop>
     ensures { Reads (spec.always_item room tokens.old) result tokens.new }
 {
     let word = tokens.word(alloc, b"always")?;
     let at = tokens.mark(alloc, b"@")?;
     let event = Boxed::new(alloc, event(alloc, tokens)?)?;
     let stmt = stmt(alloc, tokens, room)?;
-    let event = event.into_inner();
-    Ok(VMitem::Always(word, at, event, stmt))
+    let whole = VMitem::Always(word, at, event.into_inner(), stmt);
+    Ok(Boxed::new(alloc, whole)?)
 }
 
 /// `"initial" stmt`
+#[inline(never)]
 #[tactic(auto, unfolding(vlog_tree::specs::ReadModules::initial_item))]
-fn initial_item(alloc: Global, tokens: &mut Cursor<'_>, room: usize) -> Result<VMitem, Stop>
+fn initial_item(alloc: Global, tokens: &mut Cursor<'_>, room: usize) -> Result<Boxed<VMitem>, Stop>
     ensures { Reads (spec.initial_item room tokens.old) result tokens.new }
 {
     let word = tokens.word(alloc, b"initial")?;
     let stmt = stmt(alloc, tokens, room)?;
-    Ok(VMitem::Initial(word, stmt))
+    Ok(Boxed::new(alloc, VMitem::Initial(word, stmt))?)
+}
+
+/// An instance, as an item.
+#[inline(never)]
+fn instance_item(alloc: Global, tokens: &mut Cursor<'_>, room: usize) -> Result<Boxed<VMitem>, Stop>
+    ensures { Reads (form the_item.Instance (spec.instance room) tokens.old) result tokens.new }
+{
+    let instance = instance(alloc, tokens, room)?;
+    Ok(Boxed::new(alloc, VMitem::Instance(instance))?)
 }
 
 /// A token that an item begins with.
@@ -135,8 +157,8 @@ fn item_ends_open(item: &VMitem) -> bool
     match item {
         VMitem::If(_, _, None) => true,
         VMitem::If(_, _, Some(other)) => body_ends_open(other.body.get()),
-        VMitem::Always(_, _, _, stmt) => ends_open(stmt),
-        VMitem::Initial(_, stmt) => ends_open(stmt),
+        VMitem::Always(_, _, _, stmt) => ends_open(stmt.get()),
+        VMitem::Initial(_, stmt) => ends_open(stmt.get()),
         VMitem::Ports(..) => false,
         VMitem::Nets(..) => false,
         VMitem::Constants(..) => false,
@@ -171,91 +193,105 @@ fn mitems(alloc: Global, tokens: &mut Cursor<'_>, inner: usize) -> Result<Items<
         if !sees_mitem(tokens) {
             return Ok(found);
         }
-        found.push(mitem(alloc, tokens, inner)?)?;
+        found.push(mitem(alloc, tokens, inner)?.into_inner())?;
     }
     Ok(found)
 }
 
 /// `"generate" {mitem} "endgenerate"`
 #[cycle(mitem)]
+#[inline(never)]
 #[tactic(auto, unfolding(vlog_tree::specs::ReadModules::region))]
-fn region(alloc: Global, tokens: &mut Cursor<'_>, inner: usize) -> Result<VMitem, Stop>
+fn region(alloc: Global, tokens: &mut Cursor<'_>, inner: usize) -> Result<Boxed<VMitem>, Stop>
     ensures { Reads (spec.region (spec.mitem inner) tokens.old) result tokens.new }
 {
     let word = tokens.word(alloc, b"generate")?;
     let items = mitems(alloc, tokens, inner)?;
     let end = tokens.word(alloc, b"endgenerate")?;
-    Ok(VMitem::Generate(word, items, end))
+    Ok(Boxed::new(alloc, VMitem::Generate(word, items, end))?)
 }
 
 /// `"begin" [":" NAME] {mitem} "end"`
 #[cycle(mitem)]
+#[inline(never)]
 #[tactic(auto, unfolding(vlog_tree::specs::ReadModules::body_block))]
-fn body_block(alloc: Global, tokens: &mut Cursor<'_>, inner: usize) -> Result<VGbody, Stop>
+fn body_block(alloc: Global, tokens: &mut Cursor<'_>, inner: usize) -> Result<Boxed<VGbody>, Stop>
     ensures { Reads (spec.body_block (spec.mitem inner) tokens.old) result tokens.new }
 {
     let word = tokens.word(alloc, b"begin")?;
     let label = any_label(alloc, tokens)?;
     let items = mitems(alloc, tokens, inner)?;
     let end = tokens.word(alloc, b"end")?;
-    Ok(VGbody::Block(word, label, items, end))
+    Ok(Boxed::new(alloc, VGbody::Block(word, label, items, end))?)
 }
 
 /// `"begin" ":" NAME {mitem} "end"`
 #[cycle(mitem)]
+#[inline(never)]
 #[tactic(auto, unfolding(vlog_tree::specs::ReadModules::named_block))]
-fn named_block(alloc: Global, tokens: &mut Cursor<'_>, inner: usize) -> Result<VGbody, Stop>
+fn named_block(alloc: Global, tokens: &mut Cursor<'_>, inner: usize) -> Result<Boxed<VGbody>, Stop>
     ensures { Reads (spec.named_block (spec.mitem inner) tokens.old) result tokens.new }
 {
     let word = tokens.word(alloc, b"begin")?;
     let label = label(alloc, tokens)?;
     let items = mitems(alloc, tokens, inner)?;
     let end = tokens.word(alloc, b"end")?;
-    Ok(VGbody::Block(word, Some(label), items, end))
-}
-
-/// The body of a loop, in a box.
-#[cycle(mitem)]
-fn loop_body(alloc: Global, tokens: &mut Cursor<'_>, inner: usize) -> Result<Boxed<VGbody>, Stop>
-    ensures { Reads (spec.named_block (spec.mitem inner) tokens.old) result tokens.new }
-{
-    Ok(Boxed::new(alloc, named_block(alloc, tokens, inner)?)?)
+    let whole = VGbody::Block(word, Some(label), items, end);
+    Ok(Boxed::new(alloc, whole)?)
 }
 
 /// `"for" "(" NAME "=" expr ";" expr ";" NAME "=" expr ")" "begin" ":" NAME {mitem} "end"`
 #[cycle(mitem)]
+#[inline(never)]
 #[tactic(auto, unfolding(vlog_tree::specs::ReadModules::for_item))]
 fn for_item(
     alloc: Global,
     tokens: &mut Cursor<'_>,
     room: usize,
     inner: usize,
-) -> Result<VMitem, Stop>
+) -> Result<Boxed<VMitem>, Stop>
     ensures { Reads (spec.for_item room (spec.mitem inner) tokens.old) result tokens.new }
 {
     let head = Boxed::new(alloc, for_head(alloc, tokens, room)?)?;
-    let body = loop_body(alloc, tokens, inner)?;
-    Ok(VMitem::For(head.into_inner(), body))
+    let body = named_block(alloc, tokens, inner)?;
+    Ok(Boxed::new(alloc, VMitem::For(head.into_inner(), body))?)
+}
+
+/// The conditional item of these parts, made outside the frames that nest.
+#[inline(never)]
+fn conditional_of(
+    alloc: Global,
+    head: Boxed<VIfHead>,
+    branch: Boxed<VGbody>,
+    other: Option<VGelse>,
+) -> Result<Boxed<VMitem>, Stop>
+    ensures gives { IfOk result (λ item. item ≡ the_item.If head branch other) }
+    ensures stops { IfErr result (λ stop. stop ≡ Memory) }
+{
+    let whole = VMitem::If(head.into_inner(), branch, other);
+    Ok(Boxed::new(alloc, whole)?)
+}
+
+/// The body that is this item, made outside the frames that nest.
+#[inline(never)]
+fn body_of(alloc: Global, item: Boxed<VMitem>) -> Result<Boxed<VGbody>, Stop>
+    ensures gives { IfOk result (λ body. body ≡ the_body.Item item) }
+    ensures stops { IfErr result (λ stop. stop ≡ Memory) }
+{
+    Ok(Boxed::new(alloc, VGbody::Item(item.into_inner()))?)
 }
 
 /// `mitem | "begin" [":" NAME] {mitem} "end"`
 #[cycle(mitem)]
 #[tactic(auto, unfolding(vlog_tree::specs::ReadModules::gbody))]
-fn gbody(alloc: Global, tokens: &mut Cursor<'_>, inner: usize) -> Result<VGbody, Stop>
+fn gbody(alloc: Global, tokens: &mut Cursor<'_>, inner: usize) -> Result<Boxed<VGbody>, Stop>
     ensures { Reads (spec.gbody (spec.mitem inner) tokens.old) result tokens.new }
 {
     if tokens.sees_word(b"begin") {
         return body_block(alloc, tokens, inner);
     }
-    Ok(VGbody::Item(mitem(alloc, tokens, inner)?))
-}
-
-/// A body, in a box.
-#[cycle(mitem)]
-fn boxed_body(alloc: Global, tokens: &mut Cursor<'_>, inner: usize) -> Result<Boxed<VGbody>, Stop>
-    ensures { Reads (spec.gbody (spec.mitem inner) tokens.old) result tokens.new }
-{
-    Ok(Boxed::new(alloc, gbody(alloc, tokens, inner)?)?)
+    let item = mitem(alloc, tokens, inner)?;
+    body_of(alloc, item)
 }
 
 /// `"else" gbody`
@@ -265,7 +301,7 @@ fn gelse(alloc: Global, tokens: &mut Cursor<'_>, inner: usize) -> Result<VGelse,
     ensures { Reads (spec.gelse (spec.mitem inner) tokens.old) result tokens.new }
 {
     let word = tokens.word(alloc, b"else")?;
-    let body = boxed_body(alloc, tokens, inner)?;
+    let body = gbody(alloc, tokens, inner)?;
     Ok(VGelse { word, body })
 }
 
@@ -294,13 +330,13 @@ fn gconditional(
     tokens: &mut Cursor<'_>,
     room: usize,
     inner: usize,
-) -> Result<VMitem, Stop>
+) -> Result<Boxed<VMitem>, Stop>
     ensures { Reads (spec.gconditional room (spec.mitem inner) tokens.old) result tokens.new }
 {
-    let head = Boxed::new(alloc, if_head(alloc, tokens, room)?)?;
-    let branch = boxed_body(alloc, tokens, inner)?;
+    let head = if_head(alloc, tokens, room)?;
+    let branch = gbody(alloc, tokens, inner)?;
     let other = any_gelse(alloc, tokens, inner, branch.get())?;
-    Ok(VMitem::If(head.into_inner(), branch, other))
+    conditional_of(alloc, head, branch, other)
 }
 
 /// An item with so much room for its expressions and statements and for the items in it.
@@ -311,7 +347,7 @@ fn mitem_of(
     tokens: &mut Cursor<'_>,
     room: usize,
     inner: usize,
-) -> Result<VMitem, Stop>
+) -> Result<Boxed<VMitem>, Stop>
     ensures { Reads (spec.mitem_of room (spec.mitem inner) tokens.old) result tokens.new }
 {
     if sees_dir(tokens) {
@@ -344,17 +380,20 @@ fn mitem_of(
     if tokens.sees_word(b"if") {
         return gconditional(alloc, tokens, room, inner);
     }
-    Ok(VMitem::Instance(instance(alloc, tokens, room)?))
+    instance_item(alloc, tokens, room)
 }
 
-/// An item that nests down to so many levels.
+/// An item that nests down to so many levels, in a box.
 #[cycle(mitem)]
 #[tactic(auto, using(crate::proofs::Rooms::mitem_none, crate::proofs::Rooms::mitem_down))]
-fn mitem(alloc: Global, tokens: &mut Cursor<'_>, room: usize) -> Result<VMitem, Stop>
+fn mitem(alloc: Global, tokens: &mut Cursor<'_>, room: usize) -> Result<Boxed<VMitem>, Stop>
     ensures { Reads (spec.mitem room tokens.old) result tokens.new }
 {
     if room == 0 {
         return Err(Stop::Sunk);
+    }
+    if tokens.is_below(DEEPEST_ITEM, room) {
+        return Err(Stop::Memory);
     }
     mitem_of(alloc, tokens, room, room - 1)
 }

@@ -29,8 +29,9 @@ fn read(alloc: Global, tokens: &VTokens) -> Result<VlogFile, VlogFault>
     if let Some(place) = first_deep(list) {
         return Err(fault_at(alloc, VlogCode::VlogDeep, place));
     }
-    let mut cursor = Cursor::new(list);
-    match source(alloc, &mut cursor, list.len() + 1) {
+    let room = list.len() + 1;
+    let mut cursor = Cursor::new(list, room);
+    match source(alloc, &mut cursor, room) {
         Ok(modules) => Ok(VlogFile { modules }),
         Err(Stop::Memory) => Err(VlogFault::NoMemory),
         Err(Stop::Refused) => {
@@ -52,6 +53,9 @@ fn read(alloc: Global, tokens: &VTokens) -> Result<VlogFile, VlogFault>
 ///   stand since the last `always`, `initial`, `module` or `generate`;
 /// - 203 where no fitting tree has these tokens: at the first token such that no fitting tree's tokens begin with those
 ///   up to and including it, or at the end's place where there is no such token.
+///
+/// Want of memory is also answered where over 1,056 items, or over 2,112 items and statements, stand in one another, as
+/// by an `if` in each branch of another: the stack of the program isn't grown for them.
 #[tactic(auto, using(crate::proofs::Faults::left_out_fault, crate::proofs::Faults::deep_fault, crate::proofs::Faults::left_out_first_of_deep, crate::proofs::Faults::left_out_first_of_syntax, crate::proofs::Faults::shallow_fault, crate::proofs::Faults::unread_fault, crate::proofs::Faults::first_of_faults, crate::proofs::Faults::reader_fault))]
 pub fn parse_vlog(alloc: Global, tokens: &VTokens) -> Result<VlogFile, VlogFault>
     ensures reading { IfOk result (IsReading tokens.now.list) }

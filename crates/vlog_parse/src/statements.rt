@@ -6,9 +6,10 @@ ghost use Rattle.parsing.specs.Reads.{Reads};
 ghost use Rattle.vlog_tree.specs.ReadExpressions.{mark, word};
 ghost use Rattle.vlog_tree.specs.ReadStatements as spec;
 ghost use Rattle.vlog_tree.specs.Statements as trees;
+ghost use Rattle.vlog_tree.specs.declared.tree_statements.VStmt.TheVariants as the_stmt;
 ghost use Rattle.vlog_tree.specs.Terminals.{is_mark, is_edge};
 
-use crate::cursor::Cursor;
+use crate::cursor::{Cursor, DEEPEST_STATEMENT};
 use crate::expressions::{boxed, boxed_left, next_exprs};
 use parsing::stop::Stop;
 use sqlite_items::{Boxed, Items};
@@ -110,21 +111,23 @@ pub fn any_label(alloc: Global, tokens: &mut Cursor<'_>) -> Result<Option<VLabel
     Ok(Some(label(alloc, tokens)?))
 }
 
-/// `"if" "(" expr ")"`
+/// `"if" "(" expr ")"`, in a box.
+#[inline(never)]
 #[tactic(auto, unfolding(vlog_tree::specs::ReadStatements::if_head))]
-pub fn if_head(alloc: Global, tokens: &mut Cursor<'_>, room: usize) -> Result<VIfHead, Stop>
+pub fn if_head(alloc: Global, tokens: &mut Cursor<'_>, room: usize) -> Result<Boxed<VIfHead>, Stop>
     ensures { Reads (spec.if_head room tokens.old) result tokens.new }
 {
     let word = tokens.word(alloc, b"if")?;
     let open = tokens.mark(alloc, b"(")?;
     let test = boxed(alloc, tokens, room)?;
     let close = tokens.mark(alloc, b")")?;
-    Ok(VIfHead {
+    let head = VIfHead {
         word,
         open,
-        test: test.into_inner(),
+        test,
         close,
-    })
+    };
+    Ok(Boxed::new(alloc, head)?)
 }
 
 /// A token that a statement begins with.
@@ -165,43 +168,45 @@ fn stmts(alloc: Global, tokens: &mut Cursor<'_>, inner: usize) -> Result<Items<V
         if !sees_stmt(tokens) {
             return Ok(found);
         }
-        found.push(stmt(alloc, tokens, inner)?)?;
+        found.push(stmt(alloc, tokens, inner)?.into_inner())?;
     }
     Ok(found)
 }
 
+/// `";"`
+#[inline(never)]
+fn empty(alloc: Global, tokens: &mut Cursor<'_>) -> Result<Boxed<VStmt>, Stop>
+    ensures { Reads (form the_stmt.Empty (mark (codes ";")) tokens.old) result tokens.new }
+{
+    let semi = tokens.mark(alloc, b";")?;
+    Ok(Boxed::new(alloc, VStmt::Empty(semi))?)
+}
+
 /// `"begin" [":" NAME] {stmt} "end"`
 #[cycle(stmt)]
+#[inline(never)]
 #[tactic(auto, unfolding(vlog_tree::specs::ReadStatements::block))]
-fn block(alloc: Global, tokens: &mut Cursor<'_>, inner: usize) -> Result<VStmt, Stop>
+fn block(alloc: Global, tokens: &mut Cursor<'_>, inner: usize) -> Result<Boxed<VStmt>, Stop>
     ensures { Reads (spec.block (spec.stmt inner) tokens.old) result tokens.new }
 {
     let word = tokens.word(alloc, b"begin")?;
     let label = any_label(alloc, tokens)?;
     let stmts = stmts(alloc, tokens, inner)?;
     let end = tokens.word(alloc, b"end")?;
-    Ok(VStmt::Block(word, label, stmts, end))
+    Ok(Boxed::new(alloc, VStmt::Block(word, label, stmts, end))?)
 }
 
 /// `lval ("=" | "<=") expr ";"`
+#[inline(never)]
 #[tactic(auto, unfolding(vlog_tree::specs::ReadStatements::assign))]
-fn assign(alloc: Global, tokens: &mut Cursor<'_>, room: usize) -> Result<VStmt, Stop>
+fn assign(alloc: Global, tokens: &mut Cursor<'_>, room: usize) -> Result<Boxed<VStmt>, Stop>
     ensures { Reads (spec.assign room tokens.old) result tokens.new }
 {
     let left = boxed_left(alloc, tokens, room)?;
     let mark = tokens.assigning(alloc)?;
     let value = boxed(alloc, tokens, room)?;
     let semi = tokens.mark(alloc, b";")?;
-    let (left, value) = (left.into_inner(), value.into_inner());
-    Ok(VStmt::Assign(left, mark, value, semi))
-}
-
-/// A statement in a box.
-#[cycle(stmt)]
-fn boxed_stmt(alloc: Global, tokens: &mut Cursor<'_>, inner: usize) -> Result<Boxed<VStmt>, Stop>
-    ensures { Reads (spec.stmt inner tokens.old) result tokens.new }
-{
-    Ok(Boxed::new(alloc, stmt(alloc, tokens, inner)?)?)
+    Ok(Boxed::new(alloc, VStmt::Assign(left, mark, value, semi))?)
 }
 
 /// `"else" stmt`
@@ -211,7 +216,7 @@ fn else_part(alloc: Global, tokens: &mut Cursor<'_>, inner: usize) -> Result<VEl
     ensures { Reads (spec.else_part (spec.stmt inner) tokens.old) result tokens.new }
 {
     let word = tokens.word(alloc, b"else")?;
-    let stmt = boxed_stmt(alloc, tokens, inner)?;
+    let stmt = stmt(alloc, tokens, inner)?;
     Ok(VElse { word, stmt })
 }
 
@@ -240,13 +245,13 @@ fn conditional(
     tokens: &mut Cursor<'_>,
     room: usize,
     inner: usize,
-) -> Result<VStmt, Stop>
+) -> Result<Boxed<VStmt>, Stop>
     ensures { Reads (spec.conditional room (spec.stmt inner) tokens.old) result tokens.new }
 {
-    let head = Boxed::new(alloc, if_head(alloc, tokens, room)?)?;
-    let branch = boxed_stmt(alloc, tokens, inner)?;
+    let head = if_head(alloc, tokens, room)?;
+    let branch = stmt(alloc, tokens, inner)?;
     let other = any_else(alloc, tokens, inner, branch.get())?;
-    Ok(VStmt::If(head.into_inner(), branch, other))
+    Ok(Boxed::new(alloc, VStmt::If(head, branch, other))?)
 }
 
 /// `expr {"," expr} ":" stmt`
@@ -263,7 +268,7 @@ fn labelled(
     let first = boxed(alloc, tokens, room)?;
     let more = next_exprs(alloc, tokens, room)?;
     let colon = tokens.mark(alloc, b":")?;
-    let stmt = boxed_stmt(alloc, tokens, inner)?;
+    let stmt = stmt(alloc, tokens, inner)?;
     let (first, stmt) = (first.into_inner(), stmt.into_inner());
     Ok(VCitem::Labels(first, more, colon, stmt))
 }
@@ -307,7 +312,7 @@ fn default_item(alloc: Global, tokens: &mut Cursor<'_>, inner: usize) -> Result<
 {
     let word = tokens.word(alloc, b"default")?;
     let colon = any_colon(alloc, tokens)?;
-    let stmt = boxed_stmt(alloc, tokens, inner)?;
+    let stmt = stmt(alloc, tokens, inner)?;
     Ok(VCitem::Default(word, colon, stmt.into_inner()))
 }
 
@@ -366,26 +371,37 @@ fn cases_end(
 
 /// `("case" | "casez") "(" expr ")" {citem} "endcase"`
 #[cycle(stmt)]
+#[inline(never)]
 #[tactic(auto, unfolding(vlog_tree::specs::ReadStatements::cases))]
-fn cases(alloc: Global, tokens: &mut Cursor<'_>, room: usize, inner: usize) -> Result<VStmt, Stop>
+fn cases(
+    alloc: Global,
+    tokens: &mut Cursor<'_>,
+    room: usize,
+    inner: usize,
+) -> Result<Boxed<VStmt>, Stop>
     ensures { Reads (spec.cases room (spec.stmt inner) tokens.old) result tokens.new }
 {
     let word = tokens.case_word(alloc)?;
     let open = tokens.mark(alloc, b"(")?;
     let selector = boxed(alloc, tokens, room)?;
     let (close, (items, end)) = cases_end(alloc, tokens, room, inner)?;
-    let selector = selector.into_inner();
-    Ok(VStmt::Case(word, open, selector, close, items, end))
+    let whole = VStmt::Case(word, open, selector, close, items, end);
+    Ok(Boxed::new(alloc, whole)?)
 }
 
 /// A statement with so much room for its expressions and for the statements in it.
 #[cycle(stmt)]
 #[tactic(auto, unfolding(vlog_tree::specs::ReadStatements::stmt_of))]
-fn stmt_of(alloc: Global, tokens: &mut Cursor<'_>, room: usize, inner: usize) -> Result<VStmt, Stop>
+fn stmt_of(
+    alloc: Global,
+    tokens: &mut Cursor<'_>,
+    room: usize,
+    inner: usize,
+) -> Result<Boxed<VStmt>, Stop>
     ensures { Reads (spec.stmt_of room (spec.stmt inner) tokens.old) result tokens.new }
 {
     if tokens.sees_mark(b";") {
-        return Ok(VStmt::Empty(tokens.mark(alloc, b";")?));
+        return empty(alloc, tokens);
     }
     if tokens.sees_word(b"begin") {
         return block(alloc, tokens, inner);
@@ -399,14 +415,17 @@ fn stmt_of(alloc: Global, tokens: &mut Cursor<'_>, room: usize, inner: usize) ->
     assign(alloc, tokens, room)
 }
 
-/// A statement that nests down to so many levels.
+/// A statement that nests down to so many levels, in a box.
 #[cycle(stmt)]
 #[tactic(auto, using(crate::proofs::Rooms::stmt_none, crate::proofs::Rooms::stmt_down))]
-pub fn stmt(alloc: Global, tokens: &mut Cursor<'_>, room: usize) -> Result<VStmt, Stop>
+pub fn stmt(alloc: Global, tokens: &mut Cursor<'_>, room: usize) -> Result<Boxed<VStmt>, Stop>
     ensures { Reads (spec.stmt room tokens.old) result tokens.new }
 {
     if room == 0 {
         return Err(Stop::Sunk);
+    }
+    if tokens.is_below(DEEPEST_STATEMENT, room) {
+        return Err(Stop::Memory);
     }
     stmt_of(alloc, tokens, room, room - 1)
 }

@@ -53,7 +53,7 @@ fn show(out: &mut Outline, token: &VToken) {
 #[cycle(shown)]
 fn show_expr(out: &mut Outline, expr: &VExpr) {
     match expr {
-        VExpr::Prim(prim) => show_prim(out, prim),
+        VExpr::Prim(prim) => show_prim(out, prim.get()),
         VExpr::Unary(operator, operand) => {
             out.put(b"(");
             show(out, operator);
@@ -178,14 +178,14 @@ fn show_stmt(out: &mut Outline, stmt: &VStmt) {
             out.put(b"]");
         }
         VStmt::Assign(left, mark, value, _) => {
-            show_lval(out, left);
+            show_lval(out, left.get());
             show(out, mark);
-            show_expr(out, value);
+            show_expr(out, value.get());
             out.put(b";");
         }
         VStmt::If(head, branch, other) => {
             out.put(b"?");
-            show_expr(out, &head.test);
+            show_expr(out, head.get().test.get());
             out.put(b"{");
             show_stmt(out, branch.get());
             out.put(b"}");
@@ -198,7 +198,7 @@ fn show_stmt(out: &mut Outline, stmt: &VStmt) {
         VStmt::Case(word, _, selector, _, items, _) => {
             show(out, word);
             out.put(b" ");
-            show_expr(out, selector);
+            show_expr(out, selector.get());
             out.put(b"[");
             for item in items.as_slice() {
                 show_citem(out, item);
@@ -242,8 +242,10 @@ fn show_instance(out: &mut Outline, instance: &VInstance) {
     }
     let (is_named, count) = match &instance.conns {
         None => (false, 0),
-        Some(VConns::Ordered(_, more)) => (false, more.len().saturating_add(1)),
-        Some(VConns::Named(_, more)) => (true, more.len().saturating_add(1)),
+        Some(conns) => match conns.get() {
+            VConns::Ordered(_, more) => (false, more.len().saturating_add(1)),
+            VConns::Named(_, more) => (true, more.len().saturating_add(1)),
+        },
     };
     out.put(b"(");
     if is_named {
@@ -268,38 +270,38 @@ fn show_item(out: &mut Outline, item: &VMitem) {
         VMitem::Nets(_, _, first, more, _) => {
             show_sort(out, b"N", more.len());
             if let Some(value) = &first.value {
-                show_expr(out, &value.value);
+                show_expr(out, value.value.get());
             }
         }
         VMitem::Constants(_, _, first, more, _) => {
             show_sort(out, b"C", more.len());
-            show_expr(out, &first.value);
+            show_expr(out, first.value.get());
         }
         VMitem::Genvars(_, _, more, _) => show_sort(out, b"G", more.len()),
         VMitem::Assigns(_, first, more, _) => {
             show_sort(out, b"A", more.len());
-            show_lval(out, &first.left);
+            show_lval(out, first.left.get());
             out.put(b"=");
-            show_expr(out, &first.value);
+            show_expr(out, first.value.get());
         }
         VMitem::Always(_, _, event, stmt) => {
             show_event(out, event);
-            show_stmt(out, stmt);
+            show_stmt(out, stmt.get());
         }
         VMitem::Initial(_, stmt) => {
             out.put(b"I ");
-            show_stmt(out, stmt);
+            show_stmt(out, stmt.get());
         }
         VMitem::Generate(_, items, _) => show_items(out, items.as_slice()),
         VMitem::Instance(instance) => show_instance(out, instance),
         VMitem::For(head, body) => {
             out.put(b"F ");
-            show_expr(out, &head.test);
+            show_expr(out, head.test.get());
             show_body(out, body.get());
         }
         VMitem::If(head, branch, other) => {
             out.put(b"?");
-            show_expr(out, &head.test);
+            show_expr(out, head.test.get());
             show_body(out, branch.get());
             if let Some(other) = other {
                 show_body(out, other.body.get());

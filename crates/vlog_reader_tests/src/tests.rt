@@ -404,6 +404,79 @@ fn what_nests_or_runs_on_too_long_is_refused(rt: HostRuntime) -> Result<(), Fail
     Ok(())
 }
 
+/// A start, so many times a text that is repeated and its end, and an end.
+fn grouped(
+    alloc: Global,
+    start: &str,
+    groups: usize,
+    group: (usize, &str, &str),
+    end: &str,
+) -> Result<String, Fail> {
+    let (times, text, group_end) = group;
+    let group = repeated(alloc, "", times, text, group_end)?;
+    repeated(alloc, start, groups, group.as_str(), end)
+}
+
+/// Whether the text has a tree, or the refusal.
+fn is_read(alloc: Global, text: &str) -> Result<String, Fail> {
+    let tokens = tokens_of(alloc, text)?;
+    match parse_vlog(alloc, &tokens) {
+        Ok(_) => Ok(String::from_str(alloc, "read")?),
+        Err(fault) => show_fault(alloc, &fault),
+    }
+}
+
+#[test]
+fn what_nests_deep_is_read_or_wants_memory(rt: HostRuntime) -> Result<(), Fail> {
+    let alloc = rt.alloc();
+    let brackets = repeated(alloc, "", 64, "(", "c")?;
+    let brackets = repeated(alloc, brackets.as_str(), 64, ")", "; endmodule")?;
+    let choices = repeated(alloc, "x = ", 475, "a ? b : ", brackets.as_str())?;
+    let unary = repeated(alloc, "x = ", 2043, "~", "c; endmodule")?;
+    let (stmt, item) = (
+        (500, "if (a) ", "; else "),
+        (500, "if (a) ", "wire b; else "),
+    );
+    let (else_stmt, else_item) = ((1, "if (a) ", "; else "), (1, "if (a) ", "wire b; else "));
+    let last_stmt = repeated(alloc, "", 111, "if (a) ", "; endmodule")?;
+    let last_item = repeated(alloc, "", 55, "if (a) ", "wire b; endmodule")?;
+    let cases = [
+        (
+            "module m; initial ",
+            1024,
+            else_stmt,
+            choices.as_str(),
+            "read",
+        ),
+        (
+            "module m; initial ",
+            1024,
+            else_stmt,
+            unary.as_str(),
+            "read",
+        ),
+        ("module m; initial ", 4, stmt, last_stmt.as_str(), "read"),
+        (
+            "module m; initial if (a) ",
+            4,
+            stmt,
+            last_stmt.as_str(),
+            "NoMemory",
+        ),
+        ("module m; initial ", 99, stmt, "; endmodule", "NoMemory"),
+        ("module m; ", 1024, else_item, "wire b; endmodule", "read"),
+        ("module m; ", 2, item, last_item.as_str(), "read"),
+        ("module m; if (a) ", 2, item, last_item.as_str(), "NoMemory"),
+        ("module m; ", 99, item, "wire b; endmodule", "NoMemory"),
+    ];
+    for (start, groups, group, end, want) in cases {
+        let text = grouped(alloc, start, groups, group, end)?;
+        let answer = is_read(alloc, text.as_str())?;
+        assert_eq!(rt; answer.as_str(), want);
+    }
+    Ok(())
+}
+
 /// The name of the module at the top, or the refusal.
 fn top(alloc: Global, text: &str) -> Result<String, Fail> {
     let tokens = tokens_of(alloc, text)?;

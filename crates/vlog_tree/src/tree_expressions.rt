@@ -15,7 +15,7 @@ use sqlite_items::{Boxed, Items};
 #[cycle(expr)]
 #[derive(Drop)]
 pub enum VExpr {
-    Prim(VPrim),
+    Prim(Boxed<VPrim>),
     Unary(VToken, Boxed<VExpr>),
     Binary(Boxed<VExpr>, VToken, Boxed<VExpr>),
     /// The test, `?`, the value where it holds, `:`, the value where it doesn't.

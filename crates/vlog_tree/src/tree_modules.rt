@@ -124,7 +124,7 @@ pub enum VKind {
 #[derive(Drop)]
 pub struct VType {
     pub signed: Option<VToken>,
-    pub range: Option<VRange>,
+    pub range: Option<Boxed<VRange>>,
 }
 
 /// `"[" expr ":" expr "]"`
@@ -148,7 +148,7 @@ pub struct VNet {
 #[derive(Drop)]
 pub struct VAssigned {
     pub equals: VToken,
-    pub value: VExpr,
+    pub value: Boxed<VExpr>,
 }
 
 /// `"," NAME ["=" expr]`
@@ -163,7 +163,7 @@ pub struct VNextNet {
 pub struct VConstant {
     pub name: VToken,
     pub equals: VToken,
-    pub value: VExpr,
+    pub value: Boxed<VExpr>,
 }
 
 /// `"," NAME "=" expr`
@@ -176,9 +176,9 @@ pub struct VNextConstant {
 /// `lval "=" expr`
 #[derive(Drop)]
 pub struct VDriver {
-    pub left: VLval,
+    pub left: Boxed<VLval>,
     pub equals: VToken,
-    pub value: VExpr,
+    pub value: Boxed<VExpr>,
 }
 
 /// `"," lval "=" expr`
@@ -225,10 +225,10 @@ pub struct VOverrides {
 #[derive(Drop)]
 pub struct VInstance {
     pub module_name: VToken,
-    pub overrides: Option<VOverrides>,
+    pub overrides: Option<Boxed<VOverrides>>,
     pub name: VToken,
     pub open: VToken,
-    pub conns: Option<VConns>,
+    pub conns: Option<Boxed<VConns>>,
     pub close: VToken,
     pub semi: VToken,
 }
@@ -238,11 +238,11 @@ pub struct VInstance {
 pub struct VForHead {
     pub word: VToken,
     pub open: VToken,
-    pub start: VConstant,
+    pub start: Boxed<VConstant>,
     pub first_semi: VToken,
-    pub test: VExpr,
+    pub test: Boxed<VExpr>,
     pub second_semi: VToken,
-    pub step: VConstant,
+    pub step: Boxed<VConstant>,
     pub close: VToken,
 }
 
@@ -255,8 +255,8 @@ pub enum VMitem {
     Constants(VToken, VType, VConstant, Items<VNextConstant>, VToken),
     Genvars(VToken, VToken, Items<VNextName>, VToken),
     Assigns(VToken, VDriver, Items<VNextDriver>, VToken),
-    Always(VToken, VToken, VEvent, VStmt),
-    Initial(VToken, VStmt),
+    Always(VToken, VToken, VEvent, Boxed<VStmt>),
+    Initial(VToken, Boxed<VStmt>),
     Generate(VToken, Items<VMitem>, VToken),
     Instance(VInstance),
     For(VForHead, Boxed<VGbody>),

@@ -47,7 +47,7 @@ pub struct VLabel {
 pub struct VIfHead {
     pub word: VToken,
     pub open: VToken,
-    pub test: VExpr,
+    pub test: Boxed<VExpr>,
     pub close: VToken,
 }
 
@@ -57,9 +57,9 @@ pub struct VIfHead {
 pub enum VStmt {
     Empty(VToken),
     Block(VToken, Option<VLabel>, Items<VStmt>, VToken),
-    Assign(VLval, VToken, VExpr, VToken),
-    If(VIfHead, Boxed<VStmt>, Option<VElse>),
-    Case(VToken, VToken, VExpr, VToken, Items<VCitem>, VToken),
+    Assign(Boxed<VLval>, VToken, Boxed<VExpr>, VToken),
+    If(Boxed<VIfHead>, Boxed<VStmt>, Option<VElse>),
+    Case(VToken, VToken, Boxed<VExpr>, VToken, Items<VCitem>, VToken),
 }
 
 /// `"else" stmt`

@@ -47,20 +47,23 @@ decreases-call l = 64 * l.room + 2
 abbrev pub decreases-prim : goal.decreases-prim
 decreases-prim l = 64 * l.room + 6
 
+abbrev pub decreases-boxed_prim : goal.decreases-boxed_prim
+decreases-boxed_prim l = 64 * l.room + 7
+
 abbrev pub decreases-operand_of : goal.decreases-operand_of
-decreases-operand_of l = 64 * l.room + 7
+decreases-operand_of l = 64 * l.room + 8
 
 abbrev pub decreases-operand : goal.decreases-operand
 decreases-operand l = 64 * l.room
 
 abbrev pub decreases-step : goal.decreases-step
-decreases-step l = 64 * l.room + 3 * l.level + 6
+decreases-step l = 64 * l.room + 3 * l.level + 7
 
 abbrev pub decreases-chained : goal.decreases-chained
-decreases-chained l = 64 * l.room + 3 * l.level + 7
+decreases-chained l = 64 * l.room + 3 * l.level + 8
 
 abbrev pub decreases-upto : goal.decreases-upto
-decreases-upto l = 64 * l.room + 3 * l.level + 8
+decreases-upto l = 64 * l.room + 3 * l.level + 9
 
 abbrev pub decreases-arms : goal.decreases-arms
 decreases-arms l = 64 * l.room + 2

@@ -15,17 +15,11 @@ decreases-body_block l = 9 * l.inner + 2
 abbrev pub decreases-named_block : goal.decreases-named_block
 decreases-named_block l = 9 * l.inner + 2
 
-abbrev pub decreases-loop_body : goal.decreases-loop_body
-decreases-loop_body l = 9 * l.inner + 3
-
 abbrev pub decreases-for_item : goal.decreases-for_item
 decreases-for_item l = 9 * l.inner + 4
 
 abbrev pub decreases-gbody : goal.decreases-gbody
 decreases-gbody l = 9 * l.inner + 3
-
-abbrev pub decreases-boxed_body : goal.decreases-boxed_body
-decreases-boxed_body l = 9 * l.inner + 4
 
 abbrev pub decreases-gelse : goal.decreases-gelse
 decreases-gelse l = 9 * l.inner + 5

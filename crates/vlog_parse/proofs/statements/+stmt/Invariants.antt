@@ -10,9 +10,6 @@ decreases-stmts l = 9 * l.inner + 1
 abbrev pub decreases-block : goal.decreases-block
 decreases-block l = 9 * l.inner + 2
 
-abbrev pub decreases-boxed_stmt : goal.decreases-boxed_stmt
-decreases-boxed_stmt l = 9 * l.inner + 1
-
 abbrev pub decreases-else_part : goal.decreases-else_part
 decreases-else_part l = 9 * l.inner + 2
 
