@@ -1,3 +1,5 @@
 pub mod Numbers
 pub mod Laws
+pub mod NumberLaws
 pub mod Operators
+pub mod Places

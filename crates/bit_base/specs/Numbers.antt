@@ -1,6 +1,6 @@
 -- Bits, least first, and the numbers that they stand for (IEEE 1364-2005, 4.3 Vectors, and 4.3.1: a
 -- vector is unsigned unless declared signed; 3.5.1: signed values are held in two's complement).
-use Rattle.std.specs.Prelude.{ℕ, zero, suc, ◌+◌, ◌-◌, ◌*◌, ◌/◌, ◌%◌, ◌^◌, Bool, false, ◌&&◌, ◌==◌, if◌then◌else◌, List, [], ◌∷◌, ◌++◌, length, take, drop, replicate, slice_index_or, ℤ, pos, ◌-ℤ◌}
+use Rattle.std.specs.Prelude.{ℕ, zero, suc, ◌+◌, ◌-◌, ◌*◌, ◌/◌, ◌%◌, ◌^◌, Bool, false, ◌&&◌, ◌==◌, if◌then◌else◌, List, [], ◌∷◌, ◌++◌, length, take, drop, replicate, slice_index_or, ℤ, pos, negsuc, ◌-ℤ◌, map, not}
 
 -- the number of the bits, unsigned: place i counts 2^i where it is true
 abbrev pub number_of : List Bool → ℕ
@@ -20,6 +20,12 @@ signed_number_of bits = pos (number_of bits) -ℤ pos (if sign_of bits then 2 ^ 
 abbrev pub low_bits : ℕ → ℕ → List Bool
 low_bits zero number = []
 low_bits (suc width) number = (number % 2 == 1) ∷ low_bits width (number / 2)
+
+-- the lowest bits of a whole number in two's complement, so many: those of -(n + 1) are those of n,
+-- each the other way round
+abbrev pub low_bits_signed : ℕ → ℤ → List Bool
+low_bits_signed width (pos number) = low_bits width number
+low_bits_signed width (negsuc number) = map not (low_bits width number)
 
 -- the bits at another width: cut where it is less, else filled up with the sign where they are
 -- signed, and with false where they aren't (IEEE 1364-2005, 5.5.2)

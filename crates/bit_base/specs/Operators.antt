@@ -1,10 +1,10 @@
 -- The operators of Verilog words, over lists of bits, least first, and the numbers that they stand for
 -- (IEEE 1364-2005, 5.1). Both operands have one length, that of the context (5.4), except where a
 -- condition or a shift amount has its own. Arithmetic is by the numbers, modulo 2 to the width (5.1.5).
-use Rattle.std.specs.Prelude.{ℕ, ◌+◌, ◌-◌, ◌*◌, ◌%◌, ◌^◌, Bool, true, false, not, ◌&&◌, ◌||◌, ◌==◌, nat_lt, if◌then◌else◌, List, [], ◌∷◌, ◌++◌, length, take, drop, replicate, min}
+use Rattle.std.specs.Prelude.{ℕ, ◌+◌, ◌-◌, ◌*◌, ◌/◌, ◌%◌, ◌^◌, int_div, int_rem, Bool, true, false, not, ◌&&◌, ◌||◌, ◌==◌, nat_lt, if◌then◌else◌, List, [], ◌∷◌, ◌++◌, length, take, drop, replicate, min}
 use Rattle.std.specs.List.{list_all, list_any}
 use Rattle.std.specs.Int.Signed.{lt_z}
-use Rattle.bit_base.specs.Numbers.{number_of, sign_of, signed_number_of, low_bits}
+use Rattle.bit_base.specs.Numbers.{number_of, signed_number_of, low_bits, low_bits_signed}
 
 -- the two bits differ
 abbrev pub differ : Bool → Bool → Bool
@@ -43,6 +43,48 @@ product_of a b = low_bits (length a) (number_of a * number_of b)
 abbrev pub negation_of : List Bool → List Bool
 negation_of a = low_bits (length a) (2 ^ length a - number_of a)
 
+-- the reductions `&`, `|` and `^`: every bit is true, some bit is, an odd number of them is (5.1.11)
+abbrev pub are_all : List Bool → Bool
+are_all a = list_all (λ x. x) a
+
+abbrev pub is_any : List Bool → Bool
+is_any a = list_any (λ x. x) a
+
+abbrev pub count_of_true : List Bool → ℕ
+count_of_true [] = 0
+count_of_true (x ∷ xs) = (if x then 1 else 0) + count_of_true xs
+
+abbrev pub is_odd : List Bool → Bool
+is_odd a = count_of_true a % 2 == 1
+
+-- `/` and `%` of unsigned and of signed operands: the quotient is cut towards zero, the remainder has
+-- the sign of the first operand (5.1.5)
+abbrev pub quotient_of : List Bool → List Bool → List Bool
+quotient_of a b = low_bits (length a) (number_of a / number_of b)
+
+abbrev pub remainder_of : List Bool → List Bool → List Bool
+remainder_of a b = low_bits (length a) (number_of a % number_of b)
+
+abbrev pub quotient_of_signed : List Bool → List Bool → List Bool
+quotient_of_signed a b = low_bits_signed (length a) (int_div (signed_number_of a) (signed_number_of b))
+
+abbrev pub remainder_of_signed : List Bool → List Bool → List Bool
+remainder_of_signed a b = low_bits_signed (length a) (int_rem (signed_number_of a) (signed_number_of b))
+
+-- `**` by an exponent that isn't negative (5.1.5)
+abbrev pub power_of : List Bool → ℕ → List Bool
+power_of a exponent = low_bits (length a) (number_of a ^ exponent)
+
+-- the places up to the highest true bit
+abbrev pub places_used : List Bool → ℕ
+places_used [] = 0
+places_used (x ∷ xs) = if is_any (x ∷ xs) then places_used xs + 1 else 0
+
+-- `$clog2`: the ceiling of the binary logarithm, and 0 of 0 (17.11.1): the places that the number less
+-- one takes
+abbrev pub ceiling_of_logarithm : List Bool → ℕ
+ceiling_of_logarithm a = places_used (low_bits (length a) (number_of a - 1))
+
 -- `<` of unsigned and of signed operands (5.1.7), and `==` (5.1.8)
 abbrev pub is_less : List Bool → List Bool → Bool
 is_less a b = nat_lt (number_of a) (number_of b)
@@ -60,20 +102,6 @@ shifted_left places a = replicate (min places (length a)) false ++ take (length 
 -- `>>` and `>>>` by so many places: the fill comes in above, false or the sign (5.1.12)
 abbrev pub shifted_right : ℕ → Bool → List Bool → List Bool
 shifted_right places fill a = drop places a ++ replicate (min places (length a)) fill
-
--- the reductions `&`, `|` and `^`: every bit is true, some bit is, an odd number of them is (5.1.11)
-abbrev pub are_all : List Bool → Bool
-are_all a = list_all (λ x. x) a
-
-abbrev pub is_any : List Bool → Bool
-is_any a = list_any (λ x. x) a
-
-abbrev pub count_of_true : List Bool → ℕ
-count_of_true [] = 0
-count_of_true (x ∷ xs) = (if x then 1 else 0) + count_of_true xs
-
-abbrev pub is_odd : List Bool → Bool
-is_odd a = count_of_true a % 2 == 1
 
 -- `c ? a : b`, where c is true if some bit of it is (5.1.13)
 abbrev pub chosen : List Bool → List Bool → List Bool → List Bool

@@ -1,5 +1,7 @@
 use super::bits::{Bits, bits_of, extend, number_of, slice};
+use super::place::{Place, first_of};
 use super::text::{Text, text_of};
+use std::collections::HashMap;
 use std::test::Fail;
 use std::vec::Vec;
 
@@ -41,5 +43,31 @@ fn texts_are_their_bytes(rt: HostRuntime) -> Result<(), Fail> {
     assert_eq!(rt; text.copy(rt.alloc())?.as_bytes(), b"a.rdl".as_slice());
     let moved = Text::from(Vec::from_slice(rt.alloc(), b"v")?);
     assert_eq!(rt; moved.as_bytes(), b"v".as_slice());
+    Ok(())
+}
+
+/// Texts are keys by their bytes.
+#[test]
+fn texts_with_the_same_bytes_are_one_key(rt: HostRuntime) -> Result<(), Fail> {
+    let mut numbers = HashMap::new(rt.alloc());
+    numbers.insert(text_of(rt.alloc(), b"a")?, 1)?;
+    numbers.insert(text_of(rt.alloc(), b"ab")?, 2)?;
+    assert_eq!(rt; numbers.insert(text_of(rt.alloc(), b"a")?, 3)?, Some(1));
+    assert_eq!(rt; numbers.get(&text_of(rt.alloc(), b"ab")?).copied(), Some(2));
+    Ok(())
+}
+
+/// By file, then by line, then by column.
+#[test]
+fn the_first_of_several_places_is_found(rt: HostRuntime) -> Result<(), Fail> {
+    let at = |file, line, column| Place { file, line, column };
+    let rows = [
+        [at(0, 2, 9), at(0, 2, 3), at(1, 1, 1)],
+        [at(1, 1, 1), at(0, 2, 3), at(0, 9, 1)],
+    ];
+    for (number, row) in rows.iter().enumerate() {
+        assert_eq!(rt; first_of(row), Some(at(0, 2, 3)), "row {number}");
+    }
+    assert_eq!(rt; first_of(&[]), None);
     Ok(())
 }
