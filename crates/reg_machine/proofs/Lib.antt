@@ -2,5 +2,6 @@ pub mod BitMoves
 pub mod NextLemmas
 pub mod OneFieldLemmas
 pub mod Shows
+pub mod StartLemmas
 pub mod StateLemmas
 pub mod Views

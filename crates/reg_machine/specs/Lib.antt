@@ -3,6 +3,7 @@ pub mod Conditions
 pub mod Machines
 pub mod Nexts
 pub mod OneField
+pub mod Starts
 pub mod States
 pub mod Steps
 pub mod Turns

@@ -9,6 +9,7 @@ mod bits;
 mod edges;
 mod expr;
 mod hardware;
+pub mod laws;
 pub mod machine;
 #[cfg(test)]
 mod maps;

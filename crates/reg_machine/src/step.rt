@@ -1,4 +1,4 @@
-//! The field step: the two sides joined.
+//! The parts of a field step: what the two sides of a field are, and what a field is.
 
 use crate::hardware::Side;
 
