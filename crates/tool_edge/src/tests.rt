@@ -233,3 +233,25 @@ fn the_host_keeps_files(rt: HostRuntime) -> Result<(), Fail> {
     fs::remove_file(&rt, "tool_edge_sink")?;
     Ok(())
 }
+
+/// A real file of exactly the limit is whole; with one byte more it is long, and comes up to that byte.
+#[test]
+fn a_file_of_the_host_is_long_from_one_byte_above_the_limit(rt: HostRuntime) -> Result<(), Fail> {
+    let alloc = rt.alloc();
+    let limit = 65_536;
+    let mut depot = HostDepot::new(rt.clone()?);
+    let name = text_of(alloc, b"tool_edge_limit")?;
+    let mut bytes = Vec::new(alloc);
+    for (size, answer) in [(limit, Fetched::Whole), (limit + 1, Fetched::Long)] {
+        let stored = vec![in alloc; b'x'; size]?;
+        assert!(rt; depot.store(alloc, &name, &stored).is_ok(), "{size} bytes");
+        assert_eq!(rt;
+            depot.fetch(alloc, &name, limit, &mut bytes),
+            Ok(answer),
+            "{size} bytes"
+        );
+        assert_eq!(rt; bytes.len(), size, "{size} bytes");
+    }
+    fs::remove_file(&rt, "tool_edge_limit")?;
+    Ok(())
+}
