@@ -4,6 +4,4 @@
 pub mod bits;
 pub mod laws;
 pub mod place;
-#[cfg(test)]
-mod tests;
 pub mod text;

@@ -19,6 +19,3 @@ mod words;
 
 pub use report::Status;
 pub use top::{Ended, Evidence, run_tool};
-
-#[cfg(test)]
-mod tests;

@@ -6,7 +6,5 @@ mod instances;
 mod items;
 mod properties;
 mod reading;
-#[cfg(test)]
-mod tests;
 
 pub use reading::{at_most_one_reading, parse_rdl};

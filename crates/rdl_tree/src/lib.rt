@@ -9,7 +9,5 @@ pub mod piece;
 mod places;
 pub mod reserved;
 pub mod scan;
-#[cfg(test)]
-mod tests;
 pub mod token;
 pub mod tree;

@@ -10,5 +10,3 @@ mod shelf;
 pub mod sink;
 pub mod steady_depot;
 pub mod steady_sink;
-#[cfg(test)]
-mod tests;

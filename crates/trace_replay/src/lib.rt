@@ -16,7 +16,5 @@ pub mod pins;
 pub mod read;
 pub mod replay;
 pub mod runs;
-#[cfg(test)]
-mod tests;
 pub mod text;
 pub mod trace;

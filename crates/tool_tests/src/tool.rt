@@ -1,5 +1,5 @@
-use crate::{Status, run_tool};
 use bit_base::text::{Text, text_of};
+use prove_top::{Status, run_tool};
 use std::alloc::{AllocError, Global};
 use std::process::Abort;
 use std::test::Fail;

@@ -1,6 +1,6 @@
-use crate::fault::RdlFault;
-use crate::reserved::is_reserved;
-use crate::scan::scan_rdl;
+use rdl_tree::fault::RdlFault;
+use rdl_tree::reserved::is_reserved;
+use rdl_tree::scan::scan_rdl;
 use std::alloc::Global;
 use std::test::Fail;
 

@@ -1,6 +1,6 @@
-use super::bits::{Bits, bits_of, extend, number_of, slice};
-use super::place::{Place, first_of};
-use super::text::{Text, text_of};
+use bit_base::bits::{Bits, bits_of, extend, number_of, slice};
+use bit_base::place::{Place, first_of};
+use bit_base::text::{Text, text_of};
 use std::collections::HashMap;
 use std::test::Fail;
 use std::vec::Vec;

@@ -1,17 +1,17 @@
-use crate::block::Block;
-use crate::expression::Expression;
-use crate::fault::{TraceCode, TraceFault};
-use crate::input::JointInput;
-use crate::joint::Difference;
-use crate::read::{TRACE_LIMIT, read_trace};
-use crate::replay::replay;
-use crate::text::write_trace;
-use crate::trace::{EDGE_LIMIT, START_BITS, Trace, trace_of};
 use apb_rules::wires::Choice;
 use std::alloc::{AllocError, Global};
 use std::process::Abort;
 use std::test::Fail;
 use std::vec::Vec;
+use trace_replay::block::Block;
+use trace_replay::expression::Expression;
+use trace_replay::fault::{TraceCode, TraceFault};
+use trace_replay::input::JointInput;
+use trace_replay::joint::Difference;
+use trace_replay::read::{TRACE_LIMIT, read_trace};
+use trace_replay::replay::replay;
+use trace_replay::text::write_trace;
+use trace_replay::trace::{EDGE_LIMIT, START_BITS, Trace, trace_of};
 
 /// A write of 0 to address 0: an edge of reset, a setup edge and an access edge.
 const TRACE: &[u8] =

@@ -1,6 +1,6 @@
 //! Descriptions from their text to their tree.
 
-use crate::parse_rdl;
+use rdl_parse::parse_rdl;
 use rdl_tree::fault::RdlFault;
 use rdl_tree::scan::scan_rdl;
 use rdl_tree::tree::{RdlInsts, RdlItem};

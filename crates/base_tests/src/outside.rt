@@ -1,17 +1,17 @@
-use crate::depot::{Depot, DepotAnswer, DepotCall, DepotFault, Fetched};
-use crate::host_depot::HostDepot;
-use crate::host_sink::HostSink;
-use crate::memory_depot::MemoryDepot;
-use crate::memory_sink::MemorySink;
-use crate::sink::{Sink, SinkFault};
-use crate::steady_depot::SteadyDepot;
-use crate::steady_sink::SteadySink;
 use bit_base::text::text_of;
 use std::alloc::{AllocError, Global};
 use std::fs;
 use std::process::Abort;
 use std::test::Fail;
 use std::vec::Vec;
+use tool_edge::depot::{Depot, DepotAnswer, DepotCall, DepotFault, Fetched};
+use tool_edge::host_depot::HostDepot;
+use tool_edge::host_sink::HostSink;
+use tool_edge::memory_depot::MemoryDepot;
+use tool_edge::memory_sink::MemorySink;
+use tool_edge::sink::{Sink, SinkFault};
+use tool_edge::steady_depot::SteadyDepot;
+use tool_edge::steady_sink::SteadySink;
 
 /// One call of a depot: whether it is a store, its name and limit, what it is to answer, and the
 /// bytes that it stores or is to fetch.
