@@ -1,6 +1,6 @@
 -- That reading pieces is refused by 202 or 213 alone, and names no nets.
-use Rattle.std.proofs.Common.{◌≡◌, ℕ, zero, suc, ◌+◌, Bool, true, false, List, [], ◌∷◌, cond, refl}
-use Rattle.std.specs.Prelude.{◌&&◌, not, nat_lt, Option, Some, None, Result, Ok, Err}
+use Rattle.std.proofs.Common.{◌≡◌, ℕ, zero, suc, ◌+◌, Bool, true, false, List, [], ◌∷◌, length, cond, refl}
+use Rattle.std.specs.Prelude.{◌&&◌, not, nat_lt, nat_le, Option, Some, None, Result, Ok, Err}
 use denote.Enum.Bare.{sameb}
 use Rattle.vlog_prep.specs.contracts.condition.Choice.{the_type}
 use Rattle.bit_base.specs.declared.place.Place.{Place}
@@ -14,10 +14,11 @@ use Rattle.vlog_prep.specs.declared.piece.Piece.{Piece}
 use Rattle.vlog_prep.specs.declared.piece.Piece.TheVariants.{Token, Directive, LineEnd}
 use Rattle.vlog_prep.specs.declared.directive.Command.{Command}
 use Rattle.vlog_prep.specs.declared.directive.Command.TheVariants.{Define, Undef, Ifdef, Ifndef, Elsif, Else, Endif, PassedLine, PassedWord, Use}
+use Rattle.vlog_prep.specs.declared.condition.Choice.{Choice}
 use Rattle.vlog_prep.specs.declared.condition.Choice.TheVariants.{Skipped}
 use Rattle.vlog_prep.specs.declared.condition.Condition.{Condition}
 use Rattle.vlog_prep.specs.Pieces.{command_of}
-use Rattle.vlog_prep.specs.Reading.{State, Outcome, most_tokens, is_read, where_read, counted, place_at, keep, line, next_name, definition, define_, undefine, begin, turn, turn_last, close, expanded, obey, Part, Rest, Named, Own, part_behind, then_read, read_by, expansion, start, most_levels, ended, finished, prepared}
+use Rattle.vlog_prep.specs.Reading.{State, Outcome, most_tokens, most_substituted, most_conditions, open_, is_read, where_read, counted, place_at, keep, line, next_name, definition, define_, undefine, begin, turn, turn_last, close, substitute, expanded, obey, Part, Rest, Named, Own, part_behind, then_read, read_by, expansion, start, most_levels, ended, finished, prepared}
 
 abbrev pub IsRefusal : VlogFault → Type 0
 IsRefusal NoMemory = ⊥
@@ -53,9 +54,12 @@ undefine-fine : (place : Place) (name : Option (List ℕ)) (s : State) → IsFin
 undefine-fine place None s = (refl, refl)
 undefine-fine place (Some name) s = tt
 
+open-fine : (place : Place) (choice : Choice) (s : State) → IsFine (open_ place choice s)
+open-fine place choice s = cond-fine (nat_lt (length s.conditions) most_conditions) _ _ tt (refl, refl)
+
 begin-fine : (place : Place) (wanted : Bool) (name : Option (List ℕ)) (s : State) → IsFine (begin place wanted name s)
-begin-fine place wanted None s = cond-fine (is_read s.conditions) _ _ (refl, refl) tt
-begin-fine place wanted (Some name) s = tt
+begin-fine place wanted None s = cond-fine (is_read s.conditions) _ _ (refl, refl) (open-fine place Skipped s)
+begin-fine place wanted (Some name) s = open-fine place _ s
 
 turn-fine : (place : Place) (name : Option (List ℕ)) (s : State) (cs : List Condition) → IsFine (turn place name s cs)
 turn-fine place name s [] = (refl, refl)
@@ -110,10 +114,13 @@ module _ (expand : Place → List Piece → State → Outcome) (fine : (place : 
   read_by-fine at Own (Directive name place ∷ pieces) s =
       then-fine _ _ (obey-fine (command_of name) name (place_at at place) pieces s) (λ s. read_by-fine at (part_behind (command_of name)) pieces s)
 
+substitute-fine : (body : List Piece) (s : State) → IsFine (substitute body s)
+substitute-fine body s = counted-fine s _ (cond-fine (nat_le (s.substituted + length body) most_substituted) _ _ tt (refl, refl))
+
 expansion-fine : (levels : ℕ) (place : Place) (body : List Piece) (s : State) → IsFine (expansion levels place body s)
 unfolding expansion
 expansion-fine zero place body s = (refl, refl)
-expansion-fine (suc levels) place body s = counted-fine s _ (read_by-fine (expansion levels) (expansion-fine levels) (Some place) Own body (record s { count = s.count + 1 }))
+expansion-fine (suc levels) place body s = then-fine (expansion levels) (expansion-fine levels) (substitute body s) _ (substitute-fine body s) (λ t. read_by-fine (expansion levels) (expansion-fine levels) (Some place) Own body t)
 
 ended-fine : (cs : List Condition) (tokens : List VToken) → IsFine (ended cs tokens)
 ended-fine [] tokens = tt

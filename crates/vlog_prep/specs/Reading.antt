@@ -1,5 +1,5 @@
 -- What pieces mean: macros are replaced, conditions leave pieces out, tokens are kept (IEEE 1364-2005, 19.3 and 19.4).
-use Rattle.std.specs.Prelude.{ℕ, zero, suc, ◌+◌, Bool, true, false, nat_lt, if◌then◌else◌, List, [], ◌∷◌, ◌++◌, Option, Some, None, is_some, take, not, ◌&&◌, Result, Ok, Err, bytes_eq}
+use Rattle.std.specs.Prelude.{ℕ, zero, suc, ◌+◌, Bool, true, false, nat_lt, nat_le, if◌then◌else◌, List, [], ◌∷◌, ◌++◌, length, Option, Some, None, is_some, take, not, ◌&&◌, Result, Ok, Err, bytes_eq}
 use Rattle.std.specs.List.{prefix_len}
 use denote.Enum.Bare.{sameb}
 use Rattle.vlog_prep.specs.contracts.condition.Choice.{the_type}
@@ -27,12 +27,21 @@ most_tokens = 200000
 abbrev pub most_levels : ℕ
 most_levels = 64
 
--- What has been read: the macros that are defined, the open conditions, innermost first, the tokens, and how many tokens and uses of macros there were.
+-- The most tokens and directives that all uses of macros together are replaced by, and the most conditions that are open at once.
+abbrev pub most_substituted : ℕ
+most_substituted = 4000000
+
+abbrev pub most_conditions : ℕ
+most_conditions = 1024
+
+-- What has been read: the macros that are defined, the open conditions, innermost first, the tokens, how many tokens and uses of macros there were, and how many tokens and directives the
+-- texts of the macros that were used have together.
 pub record State : Type 0 where
   pub macros : List ℕ → Option (List Piece)
   pub conditions : List Condition
   pub tokens : List VToken
   pub count : ℕ
+  pub substituted : ℕ
 
 abbrev pub Outcome : Type 0
 Outcome = Result State VlogFault
@@ -105,13 +114,17 @@ undefine place (Some name) s = Ok (with_macro name None s)
 abbrev pub chosen : Bool → State → List ℕ → Choice
 chosen wanted s name = if is_some (s.macros name) then (if wanted then Reading else Seeking) else (if wanted then Seeking else Reading)
 
-abbrev pub open_ : Place → Choice → State → State
-open_ place choice s = with_conditions (record { place = place; choice = choice; last = false } ∷ s.conditions) s
+-- One more condition is open.
+abbrev pub open_ : Place → Choice → State → Outcome
+open_ place choice s =
+    if nat_lt (length s.conditions) most_conditions
+    then Ok (with_conditions (record { place = place; choice = choice; last = false } ∷ s.conditions) s)
+    else refuse VlogSize whole
 
 -- `ifdef` and `ifndef`. Where the part is left out, so are all of the condition's, and no name is asked for.
 abbrev pub begin : Place → Bool → Option (List ℕ) → State → Outcome
-begin place wanted None s = if is_read s.conditions then refuse VlogDirective place else Ok (open_ place Skipped s)
-begin place wanted (Some name) s = Ok (open_ place (if is_read s.conditions then chosen wanted s name else Skipped) s)
+begin place wanted None s = if is_read s.conditions then refuse VlogDirective place else open_ place Skipped s
+begin place wanted (Some name) s = open_ place (if is_read s.conditions then chosen wanted s name else Skipped) s
 
 -- The choice of a further part, by its name; by none for `else`.
 abbrev pub turned : Choice → Choice → Choice
@@ -189,13 +202,20 @@ read_by expand at part (Directive name place ∷ pieces) s =
     then_read (obey expand (command_of name) name (place_at at place) pieces s) (read_by expand at (part_behind (command_of name)) pieces)
 read_by expand at part (LineEnd ∷ pieces) s = read_by expand at Own pieces s
 
+-- One more use of a macro. Its pieces are all tokens and directives, since the end of a line isn't among them; they count whether they are read or left out.
+abbrev pub substitute : List Piece → State → Outcome
+substitute body s =
+    counted s (if nat_le (s.substituted + length body) most_substituted
+    then Ok (record s { count = s.count + 1; substituted = s.substituted + length body })
+    else refuse VlogSize whole)
+
 -- The meaning of a macro's pieces at the place of its use, where macros may nest so many levels deep.
 unfoldable pub expansion : ℕ → Place → List Piece → State → Outcome
 expansion zero place body s = refuse VlogDirective place
-expansion (suc levels) place body s = counted s (read_by (expansion levels) (Some place) Own body (record s { count = s.count + 1 }))
+expansion (suc levels) place body s = then_read (substitute body s) (read_by (expansion levels) (Some place) Own body)
 
 abbrev pub start : State
-start = record { macros = λ name. None; conditions = []; tokens = []; count = 0 }
+start = record { macros = λ name. None; conditions = []; tokens = []; count = 0; substituted = 0 }
 
 -- At the end no condition may be open.
 abbrev pub ended : List Condition → List VToken → Result (List VToken) VlogFault

@@ -10,7 +10,7 @@ use Rattle.vlog_prep.specs.Reading.{State, Outcome, where_read, expanded, expans
 use denote.Ref.{Bor}
 
 abbrev pub seen : Progress → State
-seen p = record { macros = found p.macros; conditions = reverse p.conditions; tokens = p.tokens; count = p.count }
+seen p = record { macros = found p.macros; conditions = reverse p.conditions; tokens = p.tokens; count = p.count; substituted = p.substituted }
 
 abbrev pub named : Option (Bor (List ℕ)) → Option (List ℕ)
 named name = option_map (λ r. r.now) name

@@ -112,7 +112,9 @@ fn end_of(files: &[Vec<u8>]) -> Place
 /// - 201 at the first byte of what is no token, directive, blank, comment or attribute, also of a comment or an
 ///   attribute that isn't closed and of a `\` that doesn't continue a `define`, in parts that are left out too;
 /// - 202 at a directive or the use of a macro that isn't right, or 213 at 0:0 of file 0 where there are over 200,000
-///   tokens, each use of a macro counted as one more; of the two the one that is met first.
+///   tokens, each use of a macro counted as one more, where the texts of the macros that are used have together over
+///   4,000,000 tokens and directives, or where a 1,025th condition is opened within others; of all these the one that
+///   is met first, and at one directive or use 202.
 pub fn prepare(alloc: Global, files: &[Vec<u8>]) -> Result<VTokens, VlogFault>
     requires { length files.now < 2 ^ 32 }
     ensures tokens { IfOk result (ArePrepared (map vec_items files.now)) }

@@ -8,7 +8,7 @@ ghost use Rattle.vlog_tree.specs.declared.fault.VlogCode.TheVariants.{VlogDirect
 ghost use Rattle.vlog_tree.specs.declared.token.VTokenKind.TheVariants.{Name};
 ghost use Rattle.vlog_tree.specs.Tokens.{is_kind};
 ghost use Rattle.vlog_prep.specs.declared.condition.Choice.TheVariants.{Reading};
-ghost use Rattle.vlog_prep.specs.Reading.{whole, is_read, is_within_line, where_read, keep, line, next_name, definition, define_, undefine, chosen, begin, turned, turn, turn_last, close, start};
+ghost use Rattle.vlog_prep.specs.Reading.{whole, is_read, is_within_line, where_read, keep, line, next_name, definition, define_, undefine, chosen, open_, begin, turned, turn, turn_last, close, substitute, start};
 ghost use Rattle.vlog_prep.specs.Seen.{seen, named, Follows, IsUse};
 
 use crate::condition::{Choice, Condition};
@@ -23,14 +23,21 @@ use vlog_tree::token::{VToken, VTokenKind};
 /// The most tokens, where each use of a macro counts as one more.
 pub const MOST_TOKENS: u32 = 200_000;
 
-/// The macros that are defined, the open conditions, the innermost last, the tokens, and how many tokens and uses of
-/// macros there were.
+/// The most tokens and directives that all uses of macros together are replaced by.
+pub const MOST_SUBSTITUTED: usize = 4_000_000;
+
+/// The most conditions that are open at once.
+pub const MOST_CONDITIONS: usize = 1_024;
+
+/// The macros that are defined, the open conditions, the innermost last, the tokens, how many tokens and uses of
+/// macros there were, and how many tokens and directives the texts of the macros that were used have together.
 #[derive(Drop)]
 pub struct Progress<'a> {
     pub macros: Macros<'a>,
     pub conditions: Items<Condition>,
     pub tokens: Items<VToken>,
     pub count: u32,
+    pub substituted: usize,
 }
 
 /// 202 at this place.
@@ -144,6 +151,7 @@ impl<'a> Progress<'a> {
             conditions: Items::new(alloc),
             tokens: Items::new(alloc),
             count: 0,
+            substituted: 0,
         }
     }
 
@@ -222,6 +230,21 @@ impl<'a> Progress<'a> {
         }
     }
 
+    /// One more condition is open.
+    fn open(&mut self, alloc: Global, place: Place, choice: Choice) -> Result<(), VlogFault>
+        ensures { Follows (open_ place choice (seen self.old)) result (seen self.new) }
+    {
+        if self.conditions.len() >= MOST_CONDITIONS {
+            return Err(too_many(alloc));
+        }
+        self.conditions.push(Condition {
+            place,
+            choice,
+            last: false,
+        })?;
+        Ok(())
+    }
+
     /// `ifdef` or `ifndef`, with its name.
     pub fn begin(
         &mut self,
@@ -237,12 +260,7 @@ impl<'a> Progress<'a> {
             (true, Some(name)) => self.chosen(wanted, name),
             (true, None) => return Err(refuse(alloc, place)),
         };
-        self.conditions.push(Condition {
-            place,
-            choice,
-            last: false,
-        })?;
-        Ok(())
+        self.open(alloc, place, choice)
     }
 
     /// `elsif`, with its name.
@@ -301,6 +319,22 @@ impl<'a> Progress<'a> {
         }
     }
 
+    /// One more use of a macro, with these pieces.
+    fn substitute(&mut self, alloc: Global, body: &[Piece]) -> Result<(), VlogFault>
+        ensures { Follows (substitute body.now (seen self.old)) result (seen self.new) }
+    {
+        let len = body.len();
+        if self.count >= MOST_TOKENS {
+            return Err(too_many(alloc));
+        }
+        if len > MOST_SUBSTITUTED || self.substituted > MOST_SUBSTITUTED - len {
+            return Err(too_many(alloc));
+        }
+        self.count += 1;
+        self.substituted += len;
+        Ok(())
+    }
+
     /// The pieces of a macro that is used, where macros may nest so many levels deep; none where the part is left out.
     pub fn body(
         &mut self,
@@ -320,10 +354,9 @@ impl<'a> Progress<'a> {
         if levels == 0 {
             return Err(refuse(alloc, place));
         }
-        if self.count >= MOST_TOKENS {
-            return Err(too_many(alloc));
+        match self.substitute(alloc, body) {
+            Ok(()) => Ok(Some(body)),
+            Err(fault) => Err(fault),
         }
-        self.count += 1;
-        Ok(Some(body))
     }
 }

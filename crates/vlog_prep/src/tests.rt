@@ -277,10 +277,11 @@ fn repeated(alloc: Global, front: &[u8], count: usize, more: &[u8]) -> Result<Ve
     Ok(text)
 }
 
-/// The refusal of one file.
-fn answer(alloc: Global, text: &[u8]) -> Result<String, Fail> {
+/// How many tokens two files have, or the refusal.
+fn answer_of_two(alloc: Global, first: &[u8], second: &[u8]) -> Result<String, Fail> {
     let mut owned = Vec::new(alloc);
-    owned.push(text.to_vec(alloc)?)?;
+    owned.push(first.to_vec(alloc)?)?;
+    owned.push(second.to_vec(alloc)?)?;
     match prepare(alloc, owned.as_slice()) {
         Ok(tokens) => {
             let count = tokens.list.len();
@@ -292,6 +293,11 @@ fn answer(alloc: Global, text: &[u8]) -> Result<String, Fail> {
             Ok(format!(in alloc; "{code:?} {file}:{line}:{column}")?)
         }
     }
+}
+
+/// How many tokens a file has, or the refusal.
+fn answer(alloc: Global, text: &[u8]) -> Result<String, Fail> {
+    answer_of_two(alloc, text, b"")
 }
 
 #[test]
@@ -365,5 +371,64 @@ fn macros_nest_64_levels_deep(rt: HostRuntime) -> Result<(), Fail> {
         answer(alloc, deep.as_slice())?.as_str(),
         "VlogDirective 0:66:2"
     );
+    Ok(())
+}
+
+#[test]
+fn uses_of_macros_go_over_few_pieces(rt: HostRuntime) -> Result<(), Fail> {
+    let alloc = rt.alloc();
+    let skipped = repeated(alloc, b";", 997, b" `endif\n`define E\n")?;
+    let thousand = repeated(alloc, b"`define A `ifdef N ", 1, skipped.as_slice())?;
+    let skipped = repeated(alloc, b";", 1_048_500, b" `endif\n")?;
+    let million = repeated(alloc, b"`define A `ifdef N ", 1, skipped.as_slice())?;
+    let cases = [
+        (thousand.as_slice(), 4_000, "`E ;", "1 tokens"),
+        (thousand.as_slice(), 4_001, "", "VlogSize 0:0:0"),
+        (thousand.as_slice(), 4_000, "`B", "VlogDirective 1:1:12001"),
+        (million.as_slice(), 200_000, "", "VlogSize 0:0:0"),
+    ];
+    for (macros, uses, more, want) in cases {
+        let text = repeated(alloc, b"`A ", uses, more.as_bytes())?;
+        assert_eq!(rt;
+            answer_of_two(alloc, macros, text.as_slice())?.as_str(),
+            want
+        );
+    }
+    Ok(())
+}
+
+#[test]
+fn conditions_are_open_in_1_024_others_at_most(rt: HostRuntime) -> Result<(), Fail> {
+    let alloc = rt.alloc();
+    let cases = [
+        ("`ifdef A ", 1_024, "`else x ", "`endif ", 1_024, "0 tokens"),
+        ("`ifndef A ", 1_024, "x ", "`endif ", 1_024, "1 tokens"),
+        ("`ifdef A `endif ", 3_000, "", "", 0, "0 tokens"),
+        ("`ifdef A ", 1_024, "", "", 0, "VlogDirective 0:1:9208"),
+        ("`ifdef A ", 1_025, "", "`endif ", 1_025, "VlogSize 0:0:0"),
+        ("`ifndef A ", 1_025, "", "`endif ", 1_025, "VlogSize 0:0:0"),
+        (
+            "`ifdef A ",
+            1_024,
+            "`ifdef ",
+            "`endif ",
+            1_025,
+            "VlogSize 0:0:0",
+        ),
+        (
+            "`ifndef A ",
+            1_024,
+            "`ifdef ",
+            "`endif ",
+            1_025,
+            "VlogDirective 0:1:10241",
+        ),
+    ];
+    for (opening, open, between, closing, closed, want) in cases {
+        let text = repeated(alloc, closing.as_bytes(), closed, b"")?;
+        let text = repeated(alloc, between.as_bytes(), 1, text.as_slice())?;
+        let text = repeated(alloc, opening.as_bytes(), open, text.as_slice())?;
+        assert_eq!(rt; answer(alloc, text.as_slice())?.as_str(), want);
+    }
     Ok(())
 }
