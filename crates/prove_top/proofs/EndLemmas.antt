@@ -14,6 +14,7 @@ use Rattle.prove_top.specs.declared.report.Report.TheVariants.{Usage, Refused, W
 use Rattle.prove_top.specs.declared.report.Status.{Status}
 use Rattle.prove_top.specs.declared.report.Status.TheVariants as status
 use Rattle.prove_top.specs.declared.report.TheConstants.{MEMORY_LINE}
+use Rattle.prove_top.specs.Allowed.{MayCome}
 use Rattle.prove_top.specs.Answer.{Answers, UnlessFault, TellsFailed, names_asked}
 use Rattle.prove_top.specs.Ends.{Ends, EndsPut, PutsAnswer, Runs, UnlessFailed}
 use Rattle.prove_top.specs.Reads.{Called, failed_of}
@@ -32,7 +33,7 @@ put-none : (old : Option (List ℕ)) (bytes : List ℕ) → AppendsPart old byte
 put-none None bytes = (0, refl)
 put-none (Some before) bytes = (0, ap Some (sym (append-nil before)))
 
-unless-any : (ended : Status) (P : Type 0) → P → UnlessFailed ended P
+pub unless-any : (ended : Status) (P : Type 0) → P → UnlessFailed ended P
 unless-any status.Yes P p = p
 unless-any status.No P p = p
 unless-any status.Unknown P p = p
@@ -41,10 +42,10 @@ unless-any status.Usage P p = p
 unless-any status.Fault P p = tt
 unless-any status.NoMemory P p = tt
 
-unless-fault : (ended : Status) (P : Type 0) → ended ≡ status.Fault → UnlessFailed ended P
+pub unless-fault : (ended : Status) (P : Type 0) → ended ≡ status.Fault → UnlessFailed ended P
 unless-fault ended P is = let Q : Status → Type 0 = λ s. UnlessFailed s P in subst Q (sym is) tt
 
-unless-memory : (ended : Status) (P : Type 0) → ended ≡ status.NoMemory → UnlessFailed ended P
+pub unless-memory : (ended : Status) (P : Type 0) → ended ≡ status.NoMemory → UnlessFailed ended P
 unless-memory ended P is = let Q : Status → Type 0 = λ s. UnlessFailed s P in subst Q (sym is) tt
 
 -- a fact about the report that is put, unless the outside failed
@@ -94,9 +95,9 @@ settled-answer files words report after h = report-map report (Settles files wor
 pub calls-run : (told after : Option Files) (words : List (List ℕ)) (calls_before calls_after : Option (List DepotCall)) (report : Report)
     (old new : Option (List ℕ)) (before now : ℕ) (ended : Status)
     → Called (names_asked words) (trace_file words) calls_before calls_after (λ added. TellsFailed report (failed_of added) × Kept told words added after)
-    → IfSome told (λ files. UnlessFault report (Settles files words report after)) → Ends report old new before now ended
+    → IfSome told (λ files. UnlessFault report (Settles files words report after)) → MayCome words report → Ends report old new before now ended
     → Called (names_asked words) (trace_file words) calls_before calls_after (Runs told after words old new before now ended)
-calls-run told after words calls_before calls_after report old new before now ended all answer ends = record {
+calls-run told after words calls_before calls_after report old new before now ended all answer allowed ends = record {
   added = all.added;
   told = all.told;
   calls = all.calls;
@@ -104,6 +105,7 @@ calls-run told after words calls_before calls_after report old new before now en
     ran = inl (record {
       report = report;
       may = record {
+        command = allowed;
         failure = all.ends.0;
         answer = λ files is. settled-answer files words report after (at-told told (λ given. UnlessFault report (Settles given words report after)) answer files is);
       };

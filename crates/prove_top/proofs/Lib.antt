@@ -14,5 +14,6 @@ mod WordLemmas
 mod RefutedLemmas
 mod TextLemmas
 mod RefusalLemmas
+mod AllowedLemmas
 mod StoreLemmas
 mod ReplayLines

@@ -10,6 +10,7 @@ use Rattle.prove_top.specs.declared.report.Status.TheVariants as status
 use Rattle.prove_top.specs.declared.report.TheConstants.{MEMORY_LINE}
 use Rattle.prove_top.specs.Report.{file_of, run_trace, status_of, text_of}
 use Rattle.prove_top.specs.Store.{Kept, files_after}
+use Rattle.prove_top.specs.Allowed.{MayCome}
 use Rattle.prove_top.specs.Answer.{Answers, UnlessFault, TellsFailed}
 use Rattle.prove_top.specs.Reads.{failed_of}
 
@@ -36,8 +37,9 @@ EndsPut due text old new before now ended =
 abbrev pub Ends : Report → Option (List ℕ) → Option (List ℕ) → ℕ → ℕ → Status → Type 0
 Ends report old new before now ended = EndsPut (status_of report) (text_of report) old new before now ended
 
--- a report that the command may give: about the call that failed, else one that the told files give
+-- a report that the words' command may give: about the call that failed, else one that the told files give
 pub record MayReport (told : Option Files) (words : List (List ℕ)) (failed : Option (Bool × List ℕ)) (report : Report) : Type 0 where
+  pub command : MayCome words report
   pub failure : TellsFailed report failed
   pub answer : (files : Files) → told ≡ Some files → UnlessFault report (Answers files words report)
 

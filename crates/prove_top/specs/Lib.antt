@@ -11,6 +11,7 @@ pub mod Reading
 pub mod Verilog
 pub mod Report
 pub mod Answer
+pub mod Allowed
 pub mod Asked
 pub mod Store
 pub mod Ends

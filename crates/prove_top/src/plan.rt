@@ -10,6 +10,7 @@ ghost use Rattle.bit_base.specs.Numbers.{low_bits};
 ghost use Rattle.trace_replay.specs.Joint.{start_of};
 ghost use Rattle.trace_replay.specs.Trace.{edges_from, lists_of, trace_difference};
 ghost use Rattle.prove_top.specs.Reads.{ReadsOnly};
+ghost use Rattle.prove_top.specs.Allowed.{MayCome, MayTask};
 ghost use Rattle.prove_top.specs.Answer.{block_wanted, wanted_of, short_report, trace_name, name_of, block_of, names_asked, sample_report, wrong_report, trace_report, Replays, ReplayAnswer, TextsAnswer, TaskAnswer, Answers, UnlessFault, IfFault, ComesAfter, IsUsage, IsAnswer, run_report};
 
 use crate::description::reset_of;
@@ -296,6 +297,7 @@ fn work_report<D: Depot>(alloc: Global, task: &Task, depot: &mut D) -> Result<Re
     ensures files { D.files depot.new ≡ D.files depot.old }
     ensures answer { IfSome (D.files depot.old) (λ files. IfOk result (λ report. UnlessFault report (TaskAnswer files task.now report))) }
     ensures usage { IfOk result (λ report. IsUsage report → ⊥) }
+    ensures command { IfOk result (λ report. MayTask (Some task.now) report) }
     ensures calls { ReadsOnly (names_of (wanted_of task.now)) (D.calls depot.old) (D.calls depot.new) (λ added. IfOk result (λ report. ComesAfter (names_of (wanted_of task.now)) task.now.trace_file report added)) }
     ensures count { D.faults depot.old ≤ D.faults depot.new }
     ensures rose { IfOk result (λ report. IfFault report (Rose (D.faults depot.old) (D.faults depot.new))) }
@@ -321,6 +323,7 @@ pub(crate) fn plan<D: Depot>(
     ensures files { D.files depot.new ≡ D.files depot.old }
     ensures answer { IfSome (D.files depot.old) (λ files. IfOk result (λ report. UnlessFault report (Answers files words.now report))) }
     ensures usage { IfOk result (λ report. IsUsage report ↔ (command_of words.now ≡ None)) }
+    ensures command { IfOk result (λ report. MayCome words.now report) }
     ensures calls { ReadsOnly (names_asked words.now) (D.calls depot.old) (D.calls depot.new) (λ added. IfOk result (λ report. ComesAfter (names_asked words.now) (trace_file words.now) report added)) }
     ensures count { D.faults depot.old ≤ D.faults depot.new }
     ensures rose { IfOk result (λ report. IfFault report (Rose (D.faults depot.old) (D.faults depot.new))) }

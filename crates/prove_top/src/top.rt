@@ -3,6 +3,7 @@
 ghost use Rattle.std.specs.Prelude.{◌≡◌, ◌≢◌, ◌^◌, ◌<◌, ◌≤◌, ◌↔◌, ◌⊎◌, ℕ, Bool, List, Some, None, IfOk, IfSome, IsSome};
 ghost use Rattle.tool_edge.specs.Causes.{Rose};
 ghost use Rattle.tool_edge.specs.Written.{after_put, AppendsPart};
+ghost use Rattle.prove_top.specs.Allowed.{MayCome, PutsAllowed};
 ghost use Rattle.prove_top.specs.Answer.{IfFault, IsUsage, TellsFailed, UnlessFault, names_asked, size_refusal};
 ghost use Rattle.prove_top.specs.Clauses.{Added, FilesEnd, IsFaultOrMemory, OthersKept, PutsAgrees, PutsDiffers, PutsFault, PutsPart, PutsPartThenMemory, RefutedReplays, RefutedWritten, ReplayAgrees, ReplayDiffers, SampledAgrees, SampledDiffers, StoreAfterReads, WholeButTheLast};
 ghost use Rattle.prove_top.specs.Ends.{Ends, EndsPut, PutsAnswer, Runs, UnlessFailed, UnlessStores};
@@ -83,6 +84,7 @@ fn want_memory<S: Sink>(alloc: Global, out: &mut S) -> Status
 fn decide<D: Depot>(alloc: Global, words: &[Text], depot: &mut D) -> Result<Report, AllocError>
     ensures answer { IfSome (D.files depot.old) (λ files. IfOk result (λ report. UnlessFault report (Settles files words.now report (D.files depot.new)))) }
     ensures usage { IfOk result (λ report. IsUsage report ↔ (command_of words.now ≡ None)) }
+    ensures command { IfOk result (λ report. MayCome words.now report) }
     ensures calls { Called (names_asked words.now) (trace_file words.now) (D.calls depot.old) (D.calls depot.new) (λ added. IfOk result (λ report. TellsFailed report (failed_of added)) × Kept (D.files depot.old) words.now added (D.files depot.new)) }
     ensures count { D.faults depot.old ≤ D.faults depot.new }
     ensures rose { IfOk result (λ report. IfFault report (Rose (D.faults depot.old) (D.faults depot.new))) }
@@ -94,6 +96,7 @@ fn decide<D: Depot>(alloc: Global, words: &[Text], depot: &mut D) -> Result<Repo
 /// The top call, with what its end says of the report that was due.
 fn run<D: Depot, S: Sink>(alloc: Global, words: &[Text], depot: &mut D, out: &mut S) -> Status
     ensures answer { IfSome (D.files depot.old) (λ files. UnlessFailed result (PutsAnswer files words.now (S.written out.old) (S.written out.new) (D.files depot.new) result)) }
+    ensures allowed { UnlessFailed result (PutsAllowed words.now (S.written out.old) (S.written out.new) result) }
     ensures usage { UnlessFailed result ((result ≡ Status.Usage) ↔ (command_of words.now ≡ None)) }
     ensures fault { result ≡ Status.Fault → Rose (D.faults depot.old) (D.faults depot.new) ⊎ Rose (S.faults out.old) (S.faults out.new) }
     ensures calls { Called (names_asked words.now) (trace_file words.now) (D.calls depot.old) (D.calls depot.new) (Runs (D.files depot.old) (D.files depot.new) words.now (S.written out.old) (S.written out.new) (S.faults out.old) (S.faults out.new) result) }
@@ -142,6 +145,10 @@ pub fn run_tool<D: Depot, S: Sink>(
     // Under every other status, where the depot tells its files, the bytes put are exactly a report that
     // words and files give: its line, and under status 1 of `prove` the trace.
     ensures report_put { IfSome (D.files depot.old) (λ files. UnlessFailed result.status (PutsAnswer files words.now (S.written out.old) (S.written out.new) (D.files depot.new) result.status)) }
+
+    // Whether or not the depot tells its files: the bytes put are exactly a report that the words' command
+    // may give.
+    ensures report_allowed { UnlessFailed result.status (PutsAllowed words.now (S.written out.old) (S.written out.new) result.status) }
 
     // When each of these statuses comes.
     ensures usage_iff { UnlessFailed result.status ((result.status ≡ Status.Usage) ↔ (command_of words.now ≡ None)) }

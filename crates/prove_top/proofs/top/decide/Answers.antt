@@ -1,5 +1,6 @@
 use Rattle.std.proofs.Common.{refl}
 use Rattle.std.proofs.lemmas.Result.{err_from_is_err_and}
+use Rattle.prove_top.proofs.AllowedLemmas.{decided-may}
 use Rattle.prove_top.proofs.StoreLemmas.{decided-answer, decided-calls, wanting-calls}
 use Rattle.prove_top.proofs.top.decide.Goals as goal
 
@@ -16,3 +17,6 @@ pub returns-in_err-report-clause-calls : goal.returns-in_err-report-clause-calls
 returns-in_err-report-clause-calls g c =
     let p = err_from_is_err_and c.from_residual.result c.from_residual.ensures.1 in
     wanting-calls _ c.args.words.now _ p.0 _ _ _ _ p.1 c.in_err-report.ensures.files c.in_err-report.ensures.calls
+
+pub returns-clause-command : goal.returns-clause-command
+returns-clause-command g c = decided-may c.args.words.now c.in_ok-report.report _ _ _ _ _ c.in_ok-report.ensures.command c.store_trace.ensures.step
