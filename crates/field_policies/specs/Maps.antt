@@ -3,6 +3,8 @@ use Rattle.std.specs.Prelude.{◌≡◌, ◌≢◌, ℕ, ◌+◌, ◌/◌, ◌%�
 use Rattle.field_policies.specs.declared.field.Field.{Field}
 use Rattle.field_policies.specs.declared.policy.ReadEffect.TheVariants.{Keep}
 use Rattle.field_policies.specs.declared.signal.HwInput.{HwInput}
+use Rattle.field_policies.specs.declared.signal.InSignal.{InSignal}
+use Rattle.field_policies.specs.declared.signal.InSignal.TheVariants as in_signal
 use Rattle.field_policies.specs.declared.extra.Extra.TheVariants as extra
 use Rattle.field_policies.specs.declared.extra.Counter.{Counter}
 use Rattle.field_policies.specs.FieldPath.{IsFieldPath}
@@ -49,10 +51,16 @@ pub record AreDistinct (fields : List Field) (inputs : List HwInput) : Type 0 wh
 abbrev pub HavePaths : List Field → Type 0
 HavePaths fields = EachField fields (λ f. IsFieldPath f.path)
 
--- the expression of each property has as many bits as the property asks for
+-- the bits of a hardware input: data has its field's, every other signal is one bit
+abbrev pub input_width : InSignal → ℕ → ℕ
+input_width in_signal.Data width = width
+input_width _ width = 1
+
+-- each input has its bits, and the expression of each property as many as the property asks for
 pub record AreWide (fields : List Field) (inputs : List HwInput) : Type 0 where
   pub exprs : EachField fields (λ f. EachExpr (has_width fields inputs 1) (has_width fields inputs f.width) f)
   pub sources : EachField fields (λ f. (k : ℕ) (h : HwInput) → f.data_in ≡ Some k → slice_get inputs k ≡ Some h → h.width ≡ f.width)
+  pub each_input : (k : ℕ) (h : HwInput) (f : Field) → slice_get inputs k ≡ Some h → slice_get fields h.field ≡ Some f → h.width ≡ input_width h.signal f.width
 
 -- a wire shows its data input, and software only reads it
 pub record AreWires (fields : List Field) : Type 0 where
@@ -77,6 +85,13 @@ pub record AreInterrupts (fields : List Field) : Type 0 where
   pub sources : EachField fields (λ f. is_intr f.extra ≡ true → f.data_in ≢ None)
   pub members : EachField fields (λ f. (i k : ℕ) (g : Field) → slice_get (members_of f.extra) i ≡ Some k → slice_get fields k ≡ Some g → is_intr g.extra ≡ true)
   pub intr : EachField fields (λ f. f.shown.intr ≡ true → members_of f.extra ≢ [])
+
+-- the lists of interrupt fields: each rises from its own field's number, and no field is in two of them
+pub record AreMembers (fields : List Field) : Type 0 where
+  pub first : (n k : ℕ) (f : Field) → slice_get fields n ≡ Some f → slice_get (members_of f.extra) 0 ≡ Some k → k ≡ n
+  pub rising : EachField fields (λ f. (i j a b : ℕ) → i < j → slice_get (members_of f.extra) i ≡ Some a → slice_get (members_of f.extra) j ≡ Some b → a < b)
+  pub apart : (m n i j k : ℕ) (f g : Field) → slice_get fields m ≡ Some f → slice_get fields n ≡ Some g
+      → slice_get (members_of f.extra) i ≡ Some k → slice_get (members_of g.extra) j ≡ Some k → m ≡ n
 
 -- at most 1,024 words and 4,096 bits of fields; each field has a bit, so there are at most 4,096
 pub record IsSmall (words : List ℕ) (fields : List Field) : Type 0 where

@@ -1,7 +1,7 @@
 //! Register maps.
 
 ghost use Rattle.std.specs.Prelude.{List, ℕ};
-ghost use Rattle.field_policies.specs.Maps.{IsBus, AreInWords, AreResets, AreInRange, AreDistinct, HavePaths, AreWide, AreWires, AreCounters, AreInterrupts, IsSmall};
+ghost use Rattle.field_policies.specs.Maps.{IsBus, AreInWords, AreResets, AreInRange, AreDistinct, HavePaths, AreWide, AreWires, AreCounters, AreInterrupts, AreMembers, IsSmall};
 
 use crate::field::Field;
 use crate::signal::HwInput;
@@ -27,5 +27,6 @@ pub struct RegMap {
     pub ghost wires: { AreWires fields.items },
     pub ghost counters: { AreCounters fields.items },
     pub ghost interrupts: { AreInterrupts fields.items },
+    pub ghost members: { AreMembers fields.items },
     pub ghost small: { IsSmall words.items fields.items },
 }

@@ -12,7 +12,7 @@ use Rattle.field_policies.specs.FieldPath.{IsFieldPath, Step, is_name, is_index}
 use Rattle.field_policies.specs.declared.policy.ReadEffect.TheVariants.{Keep}
 use Rattle.field_policies.specs.declared.extra.Extra.TheVariants as extra
 use Rattle.field_policies.specs.declared.extra.Counter.{Counter}
-use Rattle.field_policies.specs.Maps.{EachField, IsBus, AreInWords, AreResets, AreInRange, AreDistinct, HavePaths, AreWide, AreWires, AreCounters, AreInterrupts, IsSmall}
+use Rattle.field_policies.specs.Maps.{EachField, IsBus, AreInWords, AreResets, AreInRange, AreDistinct, HavePaths, AreWide, AreWires, AreCounters, AreInterrupts, AreMembers, IsSmall, input_width}
 use Rattle.reg_machine.specs.OneField.{StandsAlone, inputs}
 use Rattle.reg_machine.specs.Conditions.{AreInputs}
 use Rattle.reg_machine.specs.Machines.{is_shown}
@@ -57,8 +57,8 @@ one_resets f s = record {
   wires = only (λ g. g.wire ≡ true → g.starts_known ≡ true) f (λ w. let clash : true ≡ false = sym w ∙ s.stored in cc);
 }
 
-exprs_by : (one all : HwExpr → Bool) (f : Field) → StandsAlone f → one (expr.Input 1) ≡ true → one (expr.Input 2) ≡ true → one (expr.Input 3) ≡ true → one (expr.Input 5) ≡ true
-    → one (expr.Input 6) ≡ true → one (expr.Input 7) ≡ true → all (expr.Input 4) ≡ true → EachExpr one all f
+exprs_by : (one all : HwExpr → Bool) (f : Field) → StandsAlone f → one (expr.Input 1) ≡ true → one (expr.Input 2) ≡ true → one (expr.Input 3) ≡ true → one (expr.Input 4) ≡ true
+    → one (expr.Input 5) ≡ true → one (expr.Input 6) ≡ true → all (expr.Input 0) ≡ true → EachExpr one all f
 exprs_by one all f s a b c d e g h = record {
   sw_gate = λ x p. ap one (s.sw_gate x p) ∙ d;
   data_gate = λ x p. ap one (s.data_gate x p) ∙ a;
@@ -71,27 +71,26 @@ exprs_by one all f s a b c d e g h = record {
 }
 
 each_input : (P : HwInput → Type 0) (w : ℕ) → P (record { field = 0; signal = in_signal.Data; width = w }) → P (record { field = 0; signal = in_signal.We; width = 1 }) → P (record { field = 0; signal = in_signal.HwSet; width = 1 })
-    → P (record { field = 0; signal = in_signal.HwClr; width = 1 }) → P (record { field = 0; signal = in_signal.Wel; width = w }) → P (record { field = 0; signal = in_signal.SwWe; width = 1 })
+    → P (record { field = 0; signal = in_signal.HwClr; width = 1 }) → P (record { field = 0; signal = in_signal.SwWe; width = 1 })
     → P (record { field = 0; signal = in_signal.Incr; width = 1 }) → P (record { field = 0; signal = in_signal.Decr; width = 1 }) → (i : ℕ) (h : HwInput) → slice_get (inputs w) i ≡ Some h → P h
-each_input P w a0 a1 a2 a3 a4 a5 a6 a7 zero h p = subst P (same_Some _ _ p) a0
-each_input P w a0 a1 a2 a3 a4 a5 a6 a7 (suc zero) h p = subst P (same_Some _ _ p) a1
-each_input P w a0 a1 a2 a3 a4 a5 a6 a7 (suc (suc zero)) h p = subst P (same_Some _ _ p) a2
-each_input P w a0 a1 a2 a3 a4 a5 a6 a7 (suc (suc (suc zero))) h p = subst P (same_Some _ _ p) a3
-each_input P w a0 a1 a2 a3 a4 a5 a6 a7 (suc (suc (suc (suc zero)))) h p = subst P (same_Some _ _ p) a4
-each_input P w a0 a1 a2 a3 a4 a5 a6 a7 (suc (suc (suc (suc (suc zero))))) h p = subst P (same_Some _ _ p) a5
-each_input P w a0 a1 a2 a3 a4 a5 a6 a7 (suc (suc (suc (suc (suc (suc zero)))))) h p = subst P (same_Some _ _ p) a6
-each_input P w a0 a1 a2 a3 a4 a5 a6 a7 (suc (suc (suc (suc (suc (suc (suc zero))))))) h p = subst P (same_Some _ _ p) a7
-each_input P w a0 a1 a2 a3 a4 a5 a6 a7 (suc (suc (suc (suc (suc (suc (suc (suc i)))))))) h p = cc
+each_input P w a0 a1 a2 a3 a4 a5 a6 zero h p = subst P (same_Some _ _ p) a0
+each_input P w a0 a1 a2 a3 a4 a5 a6 (suc zero) h p = subst P (same_Some _ _ p) a1
+each_input P w a0 a1 a2 a3 a4 a5 a6 (suc (suc zero)) h p = subst P (same_Some _ _ p) a2
+each_input P w a0 a1 a2 a3 a4 a5 a6 (suc (suc (suc zero))) h p = subst P (same_Some _ _ p) a3
+each_input P w a0 a1 a2 a3 a4 a5 a6 (suc (suc (suc (suc zero)))) h p = subst P (same_Some _ _ p) a4
+each_input P w a0 a1 a2 a3 a4 a5 a6 (suc (suc (suc (suc (suc zero))))) h p = subst P (same_Some _ _ p) a5
+each_input P w a0 a1 a2 a3 a4 a5 a6 (suc (suc (suc (suc (suc (suc zero)))))) h p = subst P (same_Some _ _ p) a6
+each_input P w a0 a1 a2 a3 a4 a5 a6 (suc (suc (suc (suc (suc (suc (suc i))))))) h p = cc
 
 place : InSignal → ℕ
 place in_signal.Data = 0
 place in_signal.We = 1
 place in_signal.HwSet = 2
 place in_signal.HwClr = 3
-place in_signal.Wel = 4
-place in_signal.SwWe = 5
-place in_signal.Incr = 6
-place in_signal.Decr = 7
+place in_signal.SwWe = 4
+place in_signal.Incr = 5
+place in_signal.Decr = 6
+place in_signal.Wel = 7
 place in_signal.SwWel = 8
 
 placed : (w i : ℕ) (h : HwInput) → slice_get (inputs w) i ≡ Some h → place h.signal ≡ i
@@ -103,15 +102,14 @@ placed w (suc (suc (suc zero))) h p = ap (λ x. place x.signal) (sym (same_Some 
 placed w (suc (suc (suc (suc zero)))) h p = ap (λ x. place x.signal) (sym (same_Some _ _ p))
 placed w (suc (suc (suc (suc (suc zero))))) h p = ap (λ x. place x.signal) (sym (same_Some _ _ p))
 placed w (suc (suc (suc (suc (suc (suc zero)))))) h p = ap (λ x. place x.signal) (sym (same_Some _ _ p))
-placed w (suc (suc (suc (suc (suc (suc (suc zero))))))) h p = ap (λ x. place x.signal) (sym (same_Some _ _ p))
-placed w (suc (suc (suc (suc (suc (suc (suc (suc i)))))))) h p = cc
+placed w (suc (suc (suc (suc (suc (suc (suc i))))))) h p = cc
 
 pub one_in_range : (f : Field) → StandsAlone f → AreInRange (f ∷ []) (inputs f.width)
 one_in_range f s = record {
-  exprs = only (λ g. EachExpr (is_in_range 1 8) (is_in_range 1 8) g) f (exprs_by (is_in_range 1 8) (is_in_range 1 8) f s refl refl refl refl refl refl refl);
-  sources = only (λ g. (k : ℕ) → g.data_in ≡ Some k → k < 8) f (λ k p. omega (arith, s.source k p));
+  exprs = only (λ g. EachExpr (is_in_range 1 7) (is_in_range 1 7) g) f (exprs_by (is_in_range 1 7) (is_in_range 1 7) f s refl refl refl refl refl refl refl);
+  sources = only (λ g. (k : ℕ) → g.data_in ≡ Some k → k < 7) f (λ k p. omega (arith, s.source k p));
   members = only (λ g. (i k : ℕ) → slice_get (members_of g.extra) i ≡ Some k → k < 1) f (λ i k p. omega (arith, s.members i k p));
-  owners = each_input (λ h. h.field < 1) f.width (lit< tt) (lit< tt) (lit< tt) (lit< tt) (lit< tt) (lit< tt) (lit< tt) (lit< tt);
+  owners = each_input (λ h. h.field < 1) f.width (lit< tt) (lit< tt) (lit< tt) (lit< tt) (lit< tt) (lit< tt) (lit< tt);
 }
 
 pub one_distinct : (f : Field) → AreDistinct (f ∷ []) (inputs f.width)
@@ -133,6 +131,7 @@ one_wide f s = record {
       (exprs_by (has_width (f ∷ []) (inputs f.width) 1) (has_width (f ∷ []) (inputs f.width) f.width) f s refl refl refl refl refl refl (eq-eqb f.width f.width refl));
   sources = only (λ g. (k : ℕ) (h : HwInput) → g.data_in ≡ Some k → slice_get (inputs f.width) k ≡ Some h → h.width ≡ g.width) f
       (λ k h p q. let zeroth : k ≡ 0 = s.source k p in let here : slice_get (inputs f.width) 0 ≡ Some h = subst (λ n. slice_get (inputs f.width) n ≡ Some h) zeroth q in ap (λ x. x.width) (sym (same_Some _ _ here)));
+  each_input = λ k h g p q. each_input (λ x. slice_get (f ∷ []) x.field ≡ Some g → x.width ≡ input_width x.signal g.width) f.width (λ e. ap (λ x. x.width) (same_Some _ _ e)) (λ e. refl) (λ e. refl) (λ e. refl) (λ e. refl) (λ e. refl) (λ e. refl) k h p q;
 }
 
 pub one_wires : (f : Field) → StandsAlone f → AreWires (f ∷ [])
@@ -166,20 +165,33 @@ one_interrupts f s = record {
 pub one_small : (f : Field) → StandsAlone f → IsSmall (0 ∷ []) (f ∷ [])
 one_small f s = record { few_words = lit≤ tt; few_bits = let w : 0 + f.width ≤ 4096 = omega (arith, s.width) in w; few_fields = lit≤ tt }
 
--- eight numbers that fit the inputs
-pub eight_inputs : (w a0 a1 a2 a3 a4 a5 a6 a7 : ℕ) → a0 < 2 ^ w → a1 < 2 → a2 < 2 → a3 < 2 → a4 < 2 ^ w → a5 < 2 → a6 < 2 → a7 < 2 → AreInputs (inputs w) (a0 ∷ a1 ∷ a2 ∷ a3 ∷ a4 ∷ a5 ∷ a6 ∷ a7 ∷ [])
-eight_inputs w a0 a1 a2 a3 a4 a5 a6 a7 p0 p1 p2 p3 p4 p5 p6 p7 = record { one_each = refl; fit = fit }
+pub one_members : (f : Field) → StandsAlone f → AreMembers (f ∷ [])
+one_members f s = record {
+  first = λ n k g at here. listed_first n k g at here;
+  rising = only (λ g. (i j a b : ℕ) → i < j → slice_get (members_of g.extra) i ≡ Some a → slice_get (members_of g.extra) j ≡ Some b → a < b) f s.rising;
+  apart = λ m n i j k g h p q _ _. at_front m g p ∙ sym (at_front n h q);
+}
   where
-    fit : (k v : ℕ) (h : HwInput) → slice_get (inputs w) k ≡ Some h → slice_get (a0 ∷ a1 ∷ a2 ∷ a3 ∷ a4 ∷ a5 ∷ a6 ∷ a7 ∷ []) k ≡ Some v → v < 2 ^ h.width
+    at_front : (n : ℕ) (g : Field) → slice_get (f ∷ []) n ≡ Some g → n ≡ 0
+    at_front zero g p = refl
+    at_front (suc i) g p = cc
+
+    listed_first : (n k : ℕ) (g : Field) → slice_get (f ∷ []) n ≡ Some g → slice_get (members_of g.extra) 0 ≡ Some k → k ≡ n
+    listed_first n k g at here = only (λ x. slice_get (members_of x.extra) 0 ≡ Some k → k ≡ 0) f (s.members 0 k) n g at here ∙ sym (at_front n g at)
+
+-- seven numbers that fit the inputs
+pub seven_inputs : (w a0 a1 a2 a3 a4 a5 a6 : ℕ) → a0 < 2 ^ w → a1 < 2 → a2 < 2 → a3 < 2 → a4 < 2 → a5 < 2 → a6 < 2 → AreInputs (inputs w) (a0 ∷ a1 ∷ a2 ∷ a3 ∷ a4 ∷ a5 ∷ a6 ∷ [])
+seven_inputs w a0 a1 a2 a3 a4 a5 a6 p0 p1 p2 p3 p4 p5 p6 = record { one_each = refl; fit = fit }
+  where
+    fit : (k v : ℕ) (h : HwInput) → slice_get (inputs w) k ≡ Some h → slice_get (a0 ∷ a1 ∷ a2 ∷ a3 ∷ a4 ∷ a5 ∷ a6 ∷ []) k ≡ Some v → v < 2 ^ h.width
     fit zero v h p q = subst (λ x. v < 2 ^ x.width) (same_Some _ _ p) (subst (λ x. x < 2 ^ w) (same_Some _ _ q) p0)
     fit (suc zero) v h p q = subst (λ x. v < 2 ^ x.width) (same_Some _ _ p) (subst (λ x. x < 2 ^ 1) (same_Some _ _ q) p1)
     fit (suc (suc zero)) v h p q = subst (λ x. v < 2 ^ x.width) (same_Some _ _ p) (subst (λ x. x < 2 ^ 1) (same_Some _ _ q) p2)
     fit (suc (suc (suc zero))) v h p q = subst (λ x. v < 2 ^ x.width) (same_Some _ _ p) (subst (λ x. x < 2 ^ 1) (same_Some _ _ q) p3)
-    fit (suc (suc (suc (suc zero)))) v h p q = subst (λ x. v < 2 ^ x.width) (same_Some _ _ p) (subst (λ x. x < 2 ^ w) (same_Some _ _ q) p4)
+    fit (suc (suc (suc (suc zero)))) v h p q = subst (λ x. v < 2 ^ x.width) (same_Some _ _ p) (subst (λ x. x < 2 ^ 1) (same_Some _ _ q) p4)
     fit (suc (suc (suc (suc (suc zero))))) v h p q = subst (λ x. v < 2 ^ x.width) (same_Some _ _ p) (subst (λ x. x < 2 ^ 1) (same_Some _ _ q) p5)
     fit (suc (suc (suc (suc (suc (suc zero)))))) v h p q = subst (λ x. v < 2 ^ x.width) (same_Some _ _ p) (subst (λ x. x < 2 ^ 1) (same_Some _ _ q) p6)
-    fit (suc (suc (suc (suc (suc (suc (suc zero))))))) v h p q = subst (λ x. v < 2 ^ x.width) (same_Some _ _ p) (subst (λ x. x < 2 ^ 1) (same_Some _ _ q) p7)
-    fit (suc (suc (suc (suc (suc (suc (suc (suc k)))))))) v h p q = cc
+    fit (suc (suc (suc (suc (suc (suc (suc k))))))) v h p q = cc
 
 pub shown_here : (fields : List Field) (n : ℕ) (f : Field) (signal : OutSignal) → slice_get fields n ≡ Some f → shows f.shown signal ≡ true → is_shown fields n signal ≡ true
 shown_here fields n f signal at h = ap (λ o. option_map_or (λ f. shows f.shown signal) o false) at ∙ h

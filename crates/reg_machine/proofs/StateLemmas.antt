@@ -1,38 +1,15 @@
 -- A state that has the right entry for each field is the next state.
-use Rattle.std.proofs.Common.{◌≡◌, ℕ, zero, suc, ◌+◌, ◌*◌, ◌/◌, ◌%◌, ◌^◌, ◌<◌, Bool, true, false, cond, List, [], ◌∷◌, length, map, Some, slice_get, get_or, eqb, refl, arith, ap, subst, ◌∙◌}
+use Rattle.std.proofs.Common.{◌≡◌, ℕ, suc, ◌+◌, ◌^◌, ◌<◌, Bool, false, List, [], ◌∷◌, length, map, Some, slice_get, get_or, refl, arith, ap, subst, ◌∙◌}
 use Rattle.std.specs.List.{enumerate_from, range_with_len}
-use Rattle.std.specs.Int.{bit_at}
-use Rattle.std.proofs.lemmas.Nat.Bits.{bit_at-suc, bit_at_lowest, bit_at-zero}
 use Rattle.std.proofs.lemmas.List.FromFn.{length-map-range_with_len, get_or-map-range_with_len}
 use Rattle.bit_base.specs.Numbers.{number_of}
 use Rattle.bit_base.proofs.Numbers.{number_of-below}
 use Rattle.field_policies.specs.declared.field.Field.{Field}
-use Rattle.field_policies.specs.Bits.{bit, AreBitsOf}
+use Rattle.field_policies.specs.Bits.{AreBitsOf}
 use Rattle.field_policies.proofs.BitLemmas.{one_number}
+use Rattle.field_policies.proofs.NumberBits.{bit_of_number}
 use Rattle.reg_machine.specs.Nexts.{IsReset}
 use Rattle.reg_machine.specs.States.{State, reset_state, number_of_bits, for_each}
-
--- a number's bits are the places that it stands for
-first_place : (b : Bool) (n : ℕ) → eqb (bit_at (cond b 1 0 + 2 * n) 0) 1 ≡ b
-first_place true n = ap (λ x. eqb x 1) (bit_at_lowest (1 + 2 * n) ∙ odd)
-  where
-    odd : (1 + 2 * n) % 2 ≡ 1
-    odd = omega arith
-first_place false n = ap (λ x. eqb x 1) (bit_at_lowest (0 + 2 * n) ∙ even)
-  where
-    even : (0 + 2 * n) % 2 ≡ 0
-    even = omega arith
-
-half : (b : Bool) (n : ℕ) → (cond b 1 0 + 2 * n) / 2 ≡ n
-half true n = omega arith
-half false n = omega arith
-
-pub bit_of_number : (bits : List Bool) (i : ℕ) → bit (number_of bits) i ≡ get_or bits i false
-unfolding bit
-bit_of_number [] i = ap (λ x. eqb x 1) (bit_at-zero i)
-bit_of_number (b ∷ bits) zero = first_place b (number_of bits)
-bit_of_number (b ∷ bits) (suc i) =
-    ap (λ x. eqb x 1) (bit_at-suc (cond b 1 0 + 2 * number_of bits) i) ∙ ap (λ n. eqb (bit_at n i) 1) (half b (number_of bits)) ∙ bit_of_number bits i
 
 -- the number of bits has these bits
 pub number_has : (w : ℕ) (bits : ℕ → Bool) → AreBitsOf w bits (number_of_bits w bits)

@@ -1,5 +1,5 @@
 -- What makes a field a valid map by itself: the one field of a 32-bit word at address 0, with the
--- hardware inputs data, `we`, `hwset`, `hwclr`, a number for `hwenable`, `swwe`, `incr` and `decr`.
+-- hardware inputs data, `we`, `hwset`, `hwclr`, `swwe`, `incr` and `decr`; `hwenable` is its data input.
 use Rattle.std.specs.Prelude.{◌≡◌, ◌≢◌, ℕ, ◌^◌, ◌<◌, ◌≤◌, true, false, List, [], ◌∷◌, Option, Some, None, slice_get}
 use Rattle.field_policies.specs.declared.field.Field.{Field}
 use Rattle.field_policies.specs.declared.signal.HwInput.{HwInput}
@@ -32,10 +32,10 @@ pub record StandsAlone (f : Field) : Type 0 where
   pub data_gate : GateIs 1 f.data_gate
   pub set : ExprIs 2 f.set
   pub clear : ExprIs 3 f.clear
-  pub bit_gate : GateIs 4 f.bit_gate
-  pub sw_gate : GateIs 5 f.sw_gate
-  pub incr : ExprIs 6 (incr_of f.extra)
-  pub decr : ExprIs 7 (decr_of f.extra)
+  pub bit_gate : GateIs 0 f.bit_gate
+  pub sw_gate : GateIs 4 f.sw_gate
+  pub incr : ExprIs 5 (incr_of f.extra)
+  pub decr : ExprIs 6 (decr_of f.extra)
   pub filter : filter_of f.extra ≡ None
   pub up : (c : Counter) → f.extra ≡ extra.Counter c → c.up < 2 ^ f.width
   pub down : (c : Counter) → f.extra ≡ extra.Counter c → c.down < 2 ^ f.width
@@ -43,6 +43,7 @@ pub record StandsAlone (f : Field) : Type 0 where
   pub intr_known : is_intr f.extra ≡ true → f.starts_known ≡ true
   pub intr_source : is_intr f.extra ≡ true → f.data_in ≢ None
   pub members : (i k : ℕ) → slice_get (members_of f.extra) i ≡ Some k → k ≡ 0
+  pub rising : (i j a b : ℕ) → i < j → slice_get (members_of f.extra) i ≡ Some a → slice_get (members_of f.extra) j ≡ Some b → a < b
   pub member : (i k : ℕ) → slice_get (members_of f.extra) i ≡ Some k → is_intr f.extra ≡ true
   pub overflow : f.shown.overflow ≡ true → is_counter f.extra ≡ true
   pub underflow : f.shown.underflow ≡ true → is_counter f.extra ≡ true
@@ -51,5 +52,5 @@ pub record StandsAlone (f : Field) : Type 0 where
 -- its hardware inputs
 abbrev pub inputs : ℕ → List HwInput
 inputs w = record { field = 0; signal = in_signal.Data; width = w } ∷ record { field = 0; signal = in_signal.We; width = 1 } ∷ record { field = 0; signal = in_signal.HwSet; width = 1 }
-    ∷ record { field = 0; signal = in_signal.HwClr; width = 1 } ∷ record { field = 0; signal = in_signal.Wel; width = w } ∷ record { field = 0; signal = in_signal.SwWe; width = 1 }
+    ∷ record { field = 0; signal = in_signal.HwClr; width = 1 } ∷ record { field = 0; signal = in_signal.SwWe; width = 1 }
     ∷ record { field = 0; signal = in_signal.Incr; width = 1 } ∷ record { field = 0; signal = in_signal.Decr; width = 1 } ∷ []

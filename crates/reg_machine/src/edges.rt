@@ -17,9 +17,9 @@ use std::alloc::{AllocError, Global};
 /// What hardware gives at an edge.
 #[derive(Clone, Copy, Drop)]
 pub struct Hardware {
+    /// Its data, which is `hwenable` too.
     pub data: u32,
     pub set: bool,
-    pub enable: u32,
     pub incr: bool,
     pub decr: bool,
 }
@@ -28,7 +28,6 @@ pub struct Hardware {
 pub const QUIET: Hardware = Hardware {
     data: 0,
     set: false,
-    enable: 0,
     incr: false,
     decr: false,
 };
@@ -82,15 +81,14 @@ impl Bench {
 }
 
 // The numbers at the hardware inputs, cut to their widths.
-fn inputs_of(width: u32, hardware: Hardware) -> [u32; 8]
+fn inputs_of(width: u32, hardware: Hardware) -> [u32; 7]
     requires some { 1 ≤ width }
     requires word { width ≤ 32 }
     ensures { AreInputs (inputs width) result }
 {
     let data = hardware.data & ones(width);
-    let enable = hardware.enable & ones(width);
     let set = one_if(hardware.set);
     let incr = one_if(hardware.incr);
     let decr = one_if(hardware.decr);
-    [data, 0, set, 0, enable, 1, incr, decr]
+    [data, 0, set, 0, 1, incr, decr]
 }

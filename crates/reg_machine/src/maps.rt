@@ -15,7 +15,7 @@ use std::alloc::{AllocError, Global};
 use std::vec::Vec;
 
 /// The map whose one field is this one, in a 32-bit word at address 0. Its hardware inputs are
-/// data, `we`, `hwset`, `hwclr`, a number for `hwenable`, `swwe`, `incr` and `decr`.
+/// data, `we`, `hwset`, `hwclr`, `swwe`, `incr` and `decr`.
 pub fn map_of(alloc: Global, field: Field) -> Result<RegMap, AllocError>
     requires { StandsAlone field }
     ensures fields { IfOk result (λ m. m.fields.items ≡ field ∷ []) }
@@ -42,11 +42,6 @@ pub fn map_of(alloc: Global, field: Field) -> Result<RegMap, AllocError>
             field: 0,
             signal: InSignal::HwClr,
             width: 1,
-        },
-        HwInput {
-            field: 0,
-            signal: InSignal::Wel,
-            width,
         },
         HwInput {
             field: 0,
@@ -104,7 +99,7 @@ const SHOWN: Shown = Shown {
 };
 
 /// A plain field of this shape that software writes. Where `hardware`, it has `hwset`, and its data
-/// input under `hwenable`.
+/// input, which is its `hwenable` too.
 pub fn plain_field(alloc: Global, shape: Shape, hardware: bool) -> Result<Field, AllocError>
     requires some { 1 ≤ shape.width }
     requires word { shape.width ≤ 32 }
@@ -149,11 +144,11 @@ fn set_of(there: bool) -> Option<HwExpr>
 }
 
 fn enable_of(there: bool) -> Option<Gate>
-    ensures { GateIs 4 result }
+    ensures { GateIs 0 result }
 {
     if there {
         Some(Gate {
-            expr: HwExpr::Input(4),
+            expr: HwExpr::Input(0),
             high: true,
         })
     } else {

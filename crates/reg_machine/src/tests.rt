@@ -22,9 +22,8 @@ const READ: BusEvent = BusEvent::Read(0);
 #[test]
 fn precedence_names_the_side_that_gives_the_field(rt: HostRuntime) -> Result<(), Fail> {
     let set = Hardware {
-        data: 0,
+        data: 1,
         set: true,
-        enable: 1,
         incr: false,
         decr: false,
     };
@@ -52,16 +51,14 @@ fn precedence_names_the_side_that_gives_the_field(rt: HostRuntime) -> Result<(),
 #[test]
 fn shut_hardware_still_takes_precedence(rt: HostRuntime) -> Result<(), Fail> {
     let shut = Hardware {
-        data: 3,
+        data: 0,
         set: false,
-        enable: 0,
         incr: false,
         decr: false,
     };
     let half = Hardware {
-        data: 3,
+        data: 1,
         set: false,
-        enable: 1,
         incr: false,
         decr: false,
     };

@@ -5,7 +5,7 @@ use Rattle.field_policies.specs.declared.field.Field.{Field}
 use Rattle.field_policies.specs.declared.signal.HwExpr.{HwExpr}
 use Rattle.field_policies.specs.Fields.{EachExpr, is_in_range, has_width, members_of}
 use Rattle.field_policies.specs.FieldPath.{IsFieldPath, Step, is_name, is_index}
-use Rattle.field_policies.specs.Maps.{EachField, IsBus, AreInWords, AreResets, AreInRange, AreDistinct, HavePaths, AreWide, AreWires, AreCounters, AreInterrupts, IsSmall}
+use Rattle.field_policies.specs.Maps.{EachField, IsBus, AreInWords, AreResets, AreInRange, AreDistinct, HavePaths, AreWide, AreWires, AreCounters, AreInterrupts, AreMembers, IsSmall}
 use Rattle.trace_replay.specs.Blocks.{first_field}
 
 only : (P : Field → Type 0) (f : Field) → P f → EachField (f ∷ []) P
@@ -100,6 +100,7 @@ first_wide r = record {
   exprs = only (λ g. EachExpr (has_width (first_field r ∷ []) [] 1) (has_width (first_field r ∷ []) [] g.width) g) (first_field r)
       (no_exprs (has_width (first_field r ∷ []) [] 1) (has_width (first_field r ∷ []) [] 8) r);
   sources = λ i f at k h p q. cc;
+  each_input = λ k h f p q. cc;
 }
 
 pub first_wires : (r : ℕ) → AreWires (first_field r ∷ [])
@@ -127,6 +128,17 @@ first_interrupts r = record {
   sources = only _ (first_field r) (λ e. cc);
   members = only _ (first_field r) (λ i k g p q. cc);
   intr = only _ (first_field r) (λ e. cc);
+}
+
+-- none of its fields lists any
+none_listed : (r n i k : ℕ) (f : Field) → slice_get (first_field r ∷ []) n ≡ Some f → slice_get (members_of f.extra) i ≡ Some k → ⊥
+none_listed r n i k f at here = only (λ g. slice_get (members_of g.extra) i ≡ Some k → ⊥) (first_field r) (λ p. cc) n f at here
+
+pub first_members : (r : ℕ) → AreMembers (first_field r ∷ [])
+first_members r = record {
+  first = λ n k f at here. absurd (none_listed r n 0 k f at here);
+  rising = λ n f at i j a b lt p q. absurd (none_listed r n i a f at p);
+  apart = λ m n i j k f g at there p q. absurd (none_listed r m i k f at p);
 }
 
 pub first_small : (r : ℕ) → IsSmall (0 ∷ []) (first_field r ∷ [])

@@ -1,7 +1,7 @@
 use Rattle.std.proofs.Common.{lit<}
-use Rattle.reg_machine.proofs.OneFieldLemmas.{eight_inputs, masked, one_if_small}
+use Rattle.reg_machine.proofs.OneFieldLemmas.{seven_inputs, masked, one_if_small}
 use Rattle.reg_machine.proofs.edges.inputs_of.Goals as goal
 
 pub returns : goal.returns
-returns c = eight_inputs c.args.width _ _ _ _ _ _ _ _ (masked _ _ _ c.ones.ensures) (lit< tt) (one_if_small _ _ c.one_if-set.ensures) (lit< tt)
-    (masked _ _ _ c.ones-2.ensures) (lit< tt) (one_if_small _ _ c.one_if-incr.ensures) (one_if_small _ _ c.one_if-decr.ensures)
+returns c = seven_inputs c.args.width _ _ _ _ _ _ _ (masked _ _ _ c.ones.ensures) (lit< tt) (one_if_small _ _ c.one_if-set.ensures) (lit< tt)
+    (lit< tt) (one_if_small _ _ c.one_if-incr.ensures) (one_if_small _ _ c.one_if-decr.ensures)

@@ -1,9 +1,9 @@
 use Rattle.std.proofs.Common.{rules, ◌≡◌, List, [], ◌∷◌, subst, sym, ℕ}
 use Rattle.field_policies.specs.declared.field.Field.{Field}
 use Rattle.field_policies.specs.declared.signal.HwInput.{HwInput}
-use Rattle.field_policies.specs.Maps.{IsBus, AreInWords, AreResets, AreInRange, AreDistinct, HavePaths, AreWide, AreWires, AreCounters, AreInterrupts, IsSmall}
+use Rattle.field_policies.specs.Maps.{IsBus, AreInWords, AreResets, AreInRange, AreDistinct, HavePaths, AreWide, AreWires, AreCounters, AreInterrupts, AreMembers, IsSmall}
 use Rattle.reg_machine.specs.OneField.{inputs}
-use Rattle.reg_machine.proofs.OneFieldLemmas.{one_bus, one_in_words, one_resets, one_in_range, one_distinct, one_path, one_wide, one_wires, one_counters, one_interrupts, one_small}
+use Rattle.reg_machine.proofs.OneFieldLemmas.{one_bus, one_in_words, one_resets, one_in_range, one_distinct, one_path, one_wide, one_wires, one_counters, one_interrupts, one_members, one_small}
 use Rattle.reg_machine.proofs.maps.map_of.Goals as goal
 
 pub invariant_of-result : goal.invariant_of-result
@@ -23,5 +23,6 @@ invariant_of-result c =
       wires = subst AreWires (sym fields) (one_wires c.args.field c.requires);
       counters = subst AreCounters (sym fields) (one_counters c.args.field c.requires);
       interrupts = subst AreInterrupts (sym fields) (one_interrupts c.args.field c.requires);
+      members = subst AreMembers (sym fields) (one_members c.args.field c.requires);
       small = subst (λ (ws : List ℕ). IsSmall ws c.push.new.self.items) (sym words) (subst (IsSmall (0 ∷ [])) (sym fields) (one_small c.args.field c.requires));
     }

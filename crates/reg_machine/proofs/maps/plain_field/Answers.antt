@@ -27,6 +27,7 @@ returns c = record {
   intr_known = λ p. cc;
   intr_source = λ p. cc;
   members = λ i k p. cc;
+  rising = λ i j a b lt p q. cc;
   member = λ i k p. cc;
   overflow = λ p. cc;
   underflow = λ p. cc;

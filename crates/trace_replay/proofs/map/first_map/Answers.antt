@@ -1,9 +1,9 @@
 use Rattle.std.proofs.Common.{rules, ◌≡◌, List, ℕ, [], ◌∷◌, subst, sym}
 use Rattle.field_policies.specs.declared.field.Field.{Field}
 use Rattle.field_policies.specs.declared.signal.HwInput.{HwInput}
-use Rattle.field_policies.specs.Maps.{IsBus, AreInWords, AreResets, AreInRange, AreDistinct, HavePaths, AreWide, AreWires, AreCounters, AreInterrupts, IsSmall}
+use Rattle.field_policies.specs.Maps.{IsBus, AreInWords, AreResets, AreInRange, AreDistinct, HavePaths, AreWide, AreWires, AreCounters, AreInterrupts, AreMembers, IsSmall}
 use Rattle.trace_replay.specs.Blocks.{first_field}
-use Rattle.trace_replay.proofs.FirstMap.{first_bus, first_in_words, first_resets, first_in_range, first_distinct, first_paths, first_wide, first_wires, first_counters, first_interrupts, first_small}
+use Rattle.trace_replay.proofs.FirstMap.{first_bus, first_in_words, first_resets, first_in_range, first_distinct, first_paths, first_wide, first_wires, first_counters, first_interrupts, first_members, first_small}
 use Rattle.trace_replay.proofs.map.first_map.Goals as goal
 
 pub invariant_of-result : goal.invariant_of-result
@@ -23,5 +23,6 @@ invariant_of-result c =
       wires = subst AreWires (sym fields) (first_wires c.args.reset);
       counters = subst AreCounters (sym fields) (first_counters c.args.reset);
       interrupts = subst AreInterrupts (sym fields) (first_interrupts c.args.reset);
+      members = subst AreMembers (sym fields) (first_members c.args.reset);
       small = subst (λ (ws : List ℕ). IsSmall ws c.push.new.self.items) (sym words) (subst (IsSmall (0 ∷ [])) (sym fields) (first_small c.args.reset));
     }
