@@ -6,6 +6,4 @@ pub mod event;
 pub mod legal;
 pub mod phase;
 pub mod style;
-#[cfg(test)]
-mod tests;
 pub mod wires;

@@ -3,5 +3,3 @@
 
 pub mod counter;
 pub mod interrupt;
-#[cfg(test)]
-mod tests;

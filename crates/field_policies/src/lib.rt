@@ -9,5 +9,3 @@ pub mod map;
 pub mod policy;
 pub mod signal;
 pub mod table;
-#[cfg(test)]
-mod tests;

@@ -1,6 +1,5 @@
 pub mod BitMoves
 pub mod NextLemmas
-pub mod OneFieldLemmas
 pub mod Shows
 pub mod StartLemmas
 pub mod StateLemmas

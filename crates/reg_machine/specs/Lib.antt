@@ -2,7 +2,6 @@ pub mod Bytes
 pub mod Conditions
 pub mod Machines
 pub mod Nexts
-pub mod OneField
 pub mod Starts
 pub mod States
 pub mod Steps

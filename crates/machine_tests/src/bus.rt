@@ -1,11 +1,11 @@
 ghost use Rattle.std.specs.Prelude.{◌≡◌};
 
-use crate::drive::drive;
-use crate::event::{BusEvent, event_of};
-use crate::legal::{is_legal, master_by_choices, master_edge_by_edge, transfers_asked_once};
-use crate::phase::{Phase, next_phase};
-use crate::style::BusStyle;
-use crate::wires::{BusWires, Choice};
+use apb_rules::drive::drive;
+use apb_rules::event::{BusEvent, event_of};
+use apb_rules::legal::{is_legal, master_by_choices, master_edge_by_edge, transfers_asked_once};
+use apb_rules::phase::{Phase, next_phase};
+use apb_rules::style::BusStyle;
+use apb_rules::wires::{BusWires, Choice};
 use std::rt::HostRuntime;
 
 const ALL_LINES: BusStyle = BusStyle {

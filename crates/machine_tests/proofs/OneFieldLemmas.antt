@@ -13,7 +13,7 @@ use Rattle.field_policies.specs.declared.policy.ReadEffect.TheVariants.{Keep}
 use Rattle.field_policies.specs.declared.extra.Extra.TheVariants as extra
 use Rattle.field_policies.specs.declared.extra.Counter.{Counter}
 use Rattle.field_policies.specs.Maps.{EachField, IsBus, AreInWords, AreResets, AreInRange, AreDistinct, HavePaths, AreWide, AreWires, AreCounters, AreInterrupts, AreMembers, IsSmall, input_width}
-use Rattle.reg_machine.specs.OneField.{StandsAlone, inputs}
+use Rattle.machine_tests.specs.OneField.{StandsAlone, inputs}
 use Rattle.reg_machine.specs.Conditions.{AreInputs}
 use Rattle.reg_machine.specs.Machines.{is_shown}
 use Rattle.field_policies.specs.Expressions.{shows, one_if}

@@ -3,7 +3,7 @@
 ghost use Rattle.std.specs.Prelude.{◌≡◌, ℕ, ◌<◌, ◌≤◌, ◌^◌, Some, true, false, [], ◌∷◌};
 ghost use Rattle.std.specs.Result.{IfOk};
 ghost use Rattle.field_policies.specs.declared.extra.Extra.{Extra};
-ghost use Rattle.reg_machine.specs.OneField.{ExprIs, GateIs, StandsAlone, inputs};
+ghost use Rattle.machine_tests.specs.OneField.{ExprIs, GateIs, StandsAlone, inputs};
 
 use bit_base::text::text_of;
 use field_policies::extra::{Counter, Extra, Intr};

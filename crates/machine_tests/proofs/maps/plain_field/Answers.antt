@@ -1,6 +1,6 @@
 use Rattle.std.proofs.Common.{refl}
-use Rattle.reg_machine.proofs.OneFieldLemmas.{letter_path}
-use Rattle.reg_machine.proofs.maps.plain_field.Goals as goal
+use Rattle.machine_tests.proofs.OneFieldLemmas.{letter_path}
+use Rattle.machine_tests.proofs.maps.plain_field.Goals as goal
 
 pub returns : goal.returns
 returns c = record {

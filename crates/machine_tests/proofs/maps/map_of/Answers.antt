@@ -2,9 +2,9 @@ use Rattle.std.proofs.Common.{rules, ◌≡◌, List, [], ◌∷◌, subst, sym,
 use Rattle.field_policies.specs.declared.field.Field.{Field}
 use Rattle.field_policies.specs.declared.signal.HwInput.{HwInput}
 use Rattle.field_policies.specs.Maps.{IsBus, AreInWords, AreResets, AreInRange, AreDistinct, HavePaths, AreWide, AreWires, AreCounters, AreInterrupts, AreMembers, IsSmall}
-use Rattle.reg_machine.specs.OneField.{inputs}
-use Rattle.reg_machine.proofs.OneFieldLemmas.{one_bus, one_in_words, one_resets, one_in_range, one_distinct, one_path, one_wide, one_wires, one_counters, one_interrupts, one_members, one_small}
-use Rattle.reg_machine.proofs.maps.map_of.Goals as goal
+use Rattle.machine_tests.specs.OneField.{inputs}
+use Rattle.machine_tests.proofs.OneFieldLemmas.{one_bus, one_in_words, one_resets, one_in_range, one_distinct, one_path, one_wide, one_wires, one_counters, one_interrupts, one_members, one_small}
+use Rattle.machine_tests.proofs.maps.map_of.Goals as goal
 
 pub invariant_of-result : goal.invariant_of-result
 invariant_of-result c =

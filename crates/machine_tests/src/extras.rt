@@ -1,5 +1,5 @@
-use crate::counter::{Counted, count_next};
-use crate::interrupt::{intr_bits, intr_next};
+use field_extras::counter::{Counted, count_next};
+use field_extras::interrupt::{intr_bits, intr_next};
 use field_policies::extra::{Counter, Intr};
 use field_policies::signal::{Gate, HwExpr};
 use std::rt::HostRuntime;

@@ -1,17 +1,18 @@
 //! Edges of a bench.
 
-ghost use Rattle.std.specs.Prelude.{◌≤◌};
+ghost use Rattle.std.specs.Prelude.{◌≡◌, ◌<◌, ◌≤◌, Some, length, slice_get};
+ghost use Rattle.field_policies.specs.Expressions.{one_if};
 ghost use Rattle.reg_machine.specs.Conditions.{AreInputs};
-ghost use Rattle.reg_machine.specs.OneField.{StandsAlone, inputs};
+ghost use Rattle.machine_tests.specs.OneField.{StandsAlone, inputs};
 
 use crate::bench::Bench;
-use crate::expr::{field_at, one_if};
-use crate::machine::{Answer, Machine};
 use crate::maps::map_of;
 use apb_rules::event::BusEvent;
 use field_policies::effect::ones;
 use field_policies::field::Field;
+use field_policies::map::RegMap;
 use field_policies::signal::OutSignal;
+use reg_machine::machine::{Answer, Machine};
 use std::alloc::{AllocError, Global};
 
 /// What hardware gives at an edge.
@@ -59,7 +60,7 @@ impl Bench {
     /// An output, where the field shows it.
     pub fn output(&self, event: BusEvent, hardware: Hardware, signal: OutSignal) -> Option<u32> {
         let hw = inputs_of(self.width, hardware);
-        if field_at(&self.map, 0).shown.has(signal) {
+        if only_field(&self.map).shown.has(signal) {
             Some(self.machine.output(&self.map, event, &hw, 0, signal))
         } else {
             None
@@ -68,7 +69,7 @@ impl Bench {
 
     /// Whether an output counts, where the field shows it.
     pub fn counts(&self, signal: OutSignal) -> Option<bool> {
-        if field_at(&self.map, 0).shown.has(signal) {
+        if only_field(&self.map).shown.has(signal) {
             Some(self.machine.counts(&self.map, 0, signal))
         } else {
             None
@@ -78,6 +79,21 @@ impl Bench {
     pub fn value(&self) -> u32 {
         self.machine.values[0]
     }
+}
+
+/// The first field of a map.
+fn only_field(map: &RegMap) -> &Field
+    requires { 0 < length map.now.fields.items }
+    ensures { slice_get map.now.fields.items 0 ≡ Some result.now }
+{
+    &map.fields[0]
+}
+
+/// 1 for true.
+fn one_if(test: bool) -> u32
+    ensures { result ≡ one_if test }
+{
+    if test { 1 } else { 0 }
 }
 
 // The numbers at the hardware inputs, cut to their widths.

@@ -2,10 +2,10 @@
 
 ghost use Rattle.std.specs.Prelude.{◌≡◌, ◌≤◌, length};
 ghost use Rattle.reg_machine.specs.Conditions.{IsState};
-ghost use Rattle.reg_machine.specs.OneField.{inputs};
+ghost use Rattle.machine_tests.specs.OneField.{inputs};
 
-use crate::machine::Machine;
 use field_policies::map::RegMap;
+use reg_machine::machine::Machine;
 
 /// A machine over the map of one field of `width` bits.
 #[derive(Drop)]

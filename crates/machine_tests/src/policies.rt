@@ -1,11 +1,11 @@
 //! The policies by the tables of IEEE 1800.2, and worked values.
 
-use crate::extra::Extra;
-use crate::field::Field;
-use crate::policy::{Policy, ReadEffect, WriteEffect};
-use crate::signal::{OutSignal, Shown};
-use crate::table::{POLICIES, after_read, names_differ, policy_of, policy_table, written};
 use bit_base::text::text_of;
+use field_policies::extra::Extra;
+use field_policies::field::Field;
+use field_policies::policy::{Policy, ReadEffect, WriteEffect};
+use field_policies::signal::{OutSignal, Shown};
+use field_policies::table::{POLICIES, after_read, names_differ, policy_of, policy_table, written};
 use std::alloc::{AllocError, Global};
 use std::test::Fail;
 
