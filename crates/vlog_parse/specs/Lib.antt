@@ -3,3 +3,4 @@ pub mod Depth
 pub mod Counts
 pub mod Refusal
 pub mod Top
+pub mod Met

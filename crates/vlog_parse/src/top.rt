@@ -1,82 +1,115 @@
 //! The module at the top of a file.
 
-ghost use Rattle.std.specs.Prelude.{◌≡◌, [], ◌∷◌, IfOk, IfErr, IfSome, IfNone};
+ghost use Rattle.std.specs.Prelude.{◌≡◌, ℕ, List, [], ◌∷◌, false, IfOk, IfErr, OnOk, IfSome, IfNone};
 ghost use Rattle.vlog_parse.specs.Top as spec;
+ghost use Rattle.vlog_parse.specs.Met.{has, Meets};
 
 use bit_base::place::Place;
 use bit_base::text::Text;
-use std::alloc::Global;
+use std::alloc::{AllocError, Global};
+use std::collections::HashSet;
 use vlog_tree::fault::{VlogCode, VlogFault, fault_at};
 use vlog_tree::tree_modules::{VGbody, VMitem, VModule, VlogFile};
 
-/// An instance of a module of this name stands in the item.
-#[cycle(instantiates)]
-fn item_instantiates(item: &VMitem, name: &[u8]) -> bool
-    ensures { result ≡ spec.is_among (spec.instances_of_mitem item.now) name.now }
+/// Names that were met.
+#[derive(Drop)]
+struct Met<'a> {
+    names: HashSet<&'a [u8]>,
+}
+
+impl<'a> Met<'a> {
+    /// No name was met.
+    fn new(alloc: Global) -> Met<'a>
+        ensures { (q : List ℕ) → has result q ≡ false }
+    {
+        Met {
+            names: HashSet::new(alloc),
+        }
+    }
+
+    /// This name was met.
+    fn has(&self, name: &[u8]) -> bool
+        ensures { result ≡ has self.now name.now }
+    {
+        self.names.contains(name)
+    }
+
+    /// One more name is met.
+    fn insert(&mut self, name: &'a [u8]) -> Result<(), AllocError>
+        ensures { OnOk result (Meets self.old (name.now ∷ []) self.new) }
+    {
+        let _ = self.names.insert(name)?;
+        Ok(())
+    }
+}
+
+/// Meets the names of the modules of the instances in the item.
+#[cycle(meet)]
+fn meet_item<'a>(item: &'a VMitem, met: &mut Met<'a>) -> Result<(), AllocError>
+    ensures { OnOk result (Meets met.old (spec.instances_of_mitem item.now) met.new) }
 {
     match item {
-        VMitem::Generate(_, items, _) => items_instantiate(items.as_slice(), name),
-        VMitem::Instance(instance) => name == instance.module_name.text.as_bytes(),
-        VMitem::For(_, body) => body_instantiates(body.get(), name),
-        VMitem::If(_, branch, None) => body_instantiates(branch.get(), name),
+        VMitem::Generate(_, items, _) => meet_items(items.as_slice(), met),
+        VMitem::Instance(instance) => met.insert(instance.module_name.text.as_bytes()),
+        VMitem::For(_, body) => meet_body(body.get(), met),
+        VMitem::If(_, branch, None) => meet_body(branch.get(), met),
         VMitem::If(_, branch, Some(other)) => {
-            body_instantiates(branch.get(), name) || body_instantiates(other.body.get(), name)
+            meet_body(branch.get(), met)?;
+            meet_body(other.body.get(), met)
         }
-        _ => false,
+        _ => Ok(()),
     }
 }
 
-#[cycle(instantiates)]
-fn body_instantiates(body: &VGbody, name: &[u8]) -> bool
-    ensures { result ≡ spec.is_among (spec.instances_of_gbody body.now) name.now }
+#[cycle(meet)]
+fn meet_body<'a>(body: &'a VGbody, met: &mut Met<'a>) -> Result<(), AllocError>
+    ensures { OnOk result (Meets met.old (spec.instances_of_gbody body.now) met.new) }
 {
     match body {
-        VGbody::Item(item) => item_instantiates(item, name),
-        VGbody::Block(_, _, items, _) => items_instantiate(items.as_slice(), name),
+        VGbody::Item(item) => meet_item(item, met),
+        VGbody::Block(_, _, items, _) => meet_items(items.as_slice(), met),
     }
 }
 
-#[cycle(instantiates)]
-fn items_instantiate(items: &[VMitem], name: &[u8]) -> bool
-    ensures { result ≡ spec.is_among (spec.instances_of_items items.now) name.now }
+#[cycle(meet)]
+fn meet_items<'a>(items: &'a [VMitem], met: &mut Met<'a>) -> Result<(), AllocError>
+    ensures { OnOk result (Meets met.old (spec.instances_of_items items.now) met.new) }
 {
     for item in items {
-        if item_instantiates(item, name) {
-            return true;
-        }
+        meet_item(item, met)?;
     }
-    false
+    Ok(())
 }
 
-/// An instance of a module of this name stands in one of the modules.
-fn is_instantiated(modules: &[VModule], name: &[u8]) -> bool
-    ensures { result ≡ spec.is_among (spec.instances_of modules.now) name.now }
+/// The names of the modules of all instances of these modules.
+fn instantiated<'a>(alloc: Global, modules: &'a [VModule]) -> Result<Met<'a>, AllocError>
+    ensures { IfOk result (λ met. (q : List ℕ) → has met q ≡ spec.is_among (spec.instances_of modules.now) q) }
 {
+    let mut met = Met::new(alloc);
     for module in modules {
-        if items_instantiate(module.items.as_slice(), name) {
-            return true;
-        }
+        meet_items(module.items.as_slice(), &mut met)?;
     }
-    false
+    Ok(met)
 }
 
 /// The one module that no module instantiates, where there is one.
-fn one_top(file: &VlogFile) -> Option<&VModule>
-    ensures one { IfSome result (λ top. spec.tops file.now ≡ top.now ∷ []) }
-    ensures none { IfNone result (spec.HasNoTop file.now) }
+fn one_top(alloc: Global, file: &VlogFile) -> Result<Option<&VModule>, AllocError>
+    ensures one { IfOk result (λ found. IfSome found (λ top. spec.tops file.now ≡ top.now ∷ [])) }
+    ensures none { IfOk result (λ found. IfNone found (spec.HasNoTop file.now)) }
 {
     let modules = file.modules.as_slice();
+    let met = instantiated(alloc, modules)?;
     let mut found = None;
     for module in modules {
-        if is_instantiated(modules, module.name.text.as_bytes()) {
+        if met.has(module.name.text.as_bytes()) {
             continue;
         }
         if found.is_some() {
-            return None;
+            return Ok(None);
         }
         found = Some(module);
     }
-    found
+    Ok(found)
 }
 
 /// The name of the one module of the file that no module of the file instantiates, regions, loops and conditions
@@ -88,9 +121,9 @@ pub fn top_of(alloc: Global, file: &VlogFile) -> Result<Text, VlogFault>
     ensures no_other { IfOk result (λ name. spec.count_named file.now name ≡ 1) }
     ensures no_top { IfErr result (spec.IsNoTopFault file.now) }
 {
-    match one_top(file) {
-        Some(top) => Ok(top.name.text.copy(alloc)?),
-        None => {
+    match one_top(alloc, file) {
+        Ok(Some(top)) => Ok(top.name.text.copy(alloc)?),
+        Ok(None) => {
             let place = Place {
                 file: 0,
                 line: 0,
@@ -98,5 +131,6 @@ pub fn top_of(alloc: Global, file: &VlogFile) -> Result<Text, VlogFault>
             };
             Err(fault_at(alloc, VlogCode::VlogName, place))
         }
+        Err(AllocError) => Err(VlogFault::NoMemory),
     }
 }
