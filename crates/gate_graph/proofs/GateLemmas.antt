@@ -1,11 +1,12 @@
 -- Values of wires, graphs that grow, and the values of gates.
-use Rattle.std.proofs.Common.{◌≡◌, ◌≢◌, ℕ, ◌+◌, ◌*◌, ◌/◌, ◌%◌, ◌≤◌, Bool, true, false, not, ◌&&◌, eqb, List, [], ◌∷◌, ◌++◌, length, arith, refl, sym, ◌∙◌, ◌⊎◌, inl, inr, length-append, eq-eqb, ne_eqb}
+use Rattle.std.proofs.Common.{◌≡◌, ◌≢◌, ℕ, ◌+◌, ◌*◌, ◌/◌, ◌%◌, ◌≤◌, Bool, true, false, not, ◌&&◌, eqb, List, [], ◌∷◌, ◌++◌, length, slice_get, Some, arith, refl, sym, ◌∙◌, ◌⊎◌, inl, inr, length-append, eq-eqb, ne_eqb}
 use Rattle.std.proofs.lemmas.Option.{slice_get_within}
 use Rattle.std.proofs.lemmas.Bool.{cases_eq}
 use Rattle.gate_graph.specs.declared.wires.Wire.{Wire}
 use Rattle.gate_graph.specs.declared.nodes.Node.{Node}
 use Rattle.gate_graph.specs.declared.nodes.Node.TheVariants.{Zero, And}
-use Rattle.gate_graph.specs.Gates.{wire_value, Respects, IsOf, AreOf, Extends, Keeps, Means, IsGraph}
+use Rattle.gate_graph.specs.Gates.{wire_value, Respects, IsOf, AreOf, Extends, Keeps, Means}
+use Rattle.gate_graph.specs.Sharing.{HasZero}
 use Rattle.gate_graph.proofs.GraphLemmas.{latch_count-push, input_count-push}
 use Rattle.gate_graph.proofs.ListLemmas.{get_kept, get_last}
 
@@ -58,16 +59,16 @@ unfolding wire_value
 value_odd v w h = let e : eqb (w.0 % 2) 1 ≡ true = eq-eqb _ _ h in rw e refl
 
 -- the two constants
-pub value_zero : (v : ℕ → Bool) (nodes : List Node) (w : Wire) → IsGraph nodes → Respects v nodes → w.0 ≡ 0 → wire_value v w ≡ false
+pub value_zero : (v : ℕ → Bool) (nodes : List Node) (w : Wire) → HasZero nodes → Respects v nodes → w.0 ≡ 0 → wire_value v w ≡ false
 value_zero v nodes w g r h =
     let e : w.0 / 2 ≡ 0 = omega arith in
-    let first : v 0 ≡ false = r.gate 0 Zero g.low.first in
+    let first : v 0 ≡ false = r.gate 0 Zero g in
     rw (value_even v w (omega arith), e) first
 
-pub value_one : (v : ℕ → Bool) (nodes : List Node) (w : Wire) → IsGraph nodes → Respects v nodes → w.0 ≡ 1 → wire_value v w ≡ true
+pub value_one : (v : ℕ → Bool) (nodes : List Node) (w : Wire) → HasZero nodes → Respects v nodes → w.0 ≡ 1 → wire_value v w ≡ true
 value_one v nodes w g r h =
     let e : w.0 / 2 ≡ 0 = omega arith in
-    let first : v 0 ≡ false = r.gate 0 Zero g.low.first in
+    let first : v 0 ≡ false = r.gate 0 Zero g in
     rw (value_odd v w (omega arith), e, first) refl
 
 -- two wires of one node are equal or opposite
@@ -102,23 +103,23 @@ opposites v a b same differ = elim (cases_eq (a.0 % 2) 0) [
 ]
 
 -- the constant wire
-pub means_zero : (nodes : List Node) (w : Wire) → IsGraph nodes → w.0 ≡ 0 → Means nodes w (λ v. false)
+pub means_zero : (nodes : List Node) (w : Wire) → HasZero nodes → w.0 ≡ 0 → Means nodes w (λ v. false)
 means_zero nodes w g h = record {
-  of = omega (arith, slice_get_within nodes 0 Zero g.low.first);
+  of = omega (arith, slice_get_within nodes 0 Zero g);
   value = λ v r. value_zero v nodes w g r h;
 }
 
 -- conjunctions that need no gate
-pub and_with_zero : (nodes : List Node) (a b w : Wire) → IsGraph nodes → w.0 ≡ 0 → (a.0 ≡ 0) ⊎ ((a.0 ≡ 0 → ⊥) × (b.0 ≡ 0)) → Means nodes w (λ v. wire_value v a && wire_value v b)
+pub and_with_zero : (nodes : List Node) (a b w : Wire) → HasZero nodes → w.0 ≡ 0 → (a.0 ≡ 0) ⊎ ((a.0 ≡ 0 → ⊥) × (b.0 ≡ 0)) → Means nodes w (λ v. wire_value v a && wire_value v b)
 and_with_zero nodes a b w g h either = record {
-  of = omega (arith, slice_get_within nodes 0 Zero g.low.first);
+  of = omega (arith, slice_get_within nodes 0 Zero g);
   value = λ v r. rw (value_zero v nodes w g r h) (sym (elim either [
     | inl p ↦ rw (value_zero v nodes a g r p) refl
     | inr p ↦ rw (value_zero v nodes b g r p.1) (and_false (wire_value v a))
   ]));
 }
 
-pub and_with_one : (nodes : List Node) (a b : Wire) → IsGraph nodes → IsOf b nodes → (a.0 ≡ 1) ⊎ ((a.0 ≡ 1 → ⊥) × (a.0 ≡ b.0)) → Means nodes b (λ v. wire_value v a && wire_value v b)
+pub and_with_one : (nodes : List Node) (a b : Wire) → HasZero nodes → IsOf b nodes → (a.0 ≡ 1) ⊎ ((a.0 ≡ 1 → ⊥) × (a.0 ≡ b.0)) → Means nodes b (λ v. wire_value v a && wire_value v b)
 and_with_one nodes a b g of either = record {
   of = of;
   value = λ v r. sym (elim either [
@@ -127,15 +128,15 @@ and_with_one nodes a b g of either = record {
   ]);
 }
 
-pub one_with_and : (nodes : List Node) (a b : Wire) → IsGraph nodes → IsOf a nodes → b.0 ≡ 1 → Means nodes a (λ v. wire_value v a && wire_value v b)
+pub one_with_and : (nodes : List Node) (a b : Wire) → HasZero nodes → IsOf a nodes → b.0 ≡ 1 → Means nodes a (λ v. wire_value v a && wire_value v b)
 one_with_and nodes a b g of p = record {
   of = of;
   value = λ v r. sym (rw (value_one v nodes b g r p) (and_true (wire_value v a)));
 }
 
-pub and_of_opposites : (nodes : List Node) (a b w : Wire) → IsGraph nodes → w.0 ≡ 0 → a.0 / 2 ≡ b.0 / 2 → a.0 ≢ b.0 → Means nodes w (λ v. wire_value v a && wire_value v b)
+pub and_of_opposites : (nodes : List Node) (a b w : Wire) → HasZero nodes → w.0 ≡ 0 → a.0 / 2 ≡ b.0 / 2 → a.0 ≢ b.0 → Means nodes w (λ v. wire_value v a && wire_value v b)
 and_of_opposites nodes a b w g h same differ = record {
-  of = omega (arith, slice_get_within nodes 0 Zero g.low.first);
+  of = omega (arith, slice_get_within nodes 0 Zero g);
   value = λ v r. rw (value_zero v nodes w g r h) (sym (opposites v a b same differ));
 }
 
@@ -146,5 +147,15 @@ and_by_gate nodes a b w h = record {
   value = λ v r.
       let e : w.0 / 2 ≡ length nodes = omega arith in
       let g : v (length nodes) ≡ (wire_value v a && wire_value v b) = r.gate (length nodes) (And a b) (get_last nodes (And a b)) in
+      rw (value_even v w (omega arith), e) g;
+}
+
+-- a gate that is there
+pub and_at : (nodes : List Node) (a b w : Wire) (j : ℕ) → slice_get nodes j ≡ Some (And a b) → w.0 ≡ 2 * j → Means nodes w (λ v. wire_value v a && wire_value v b)
+and_at nodes a b w j is h = record {
+  of = omega (arith, slice_get_within nodes j (And a b) is);
+  value = λ v r.
+      let e : w.0 / 2 ≡ j = omega arith in
+      let g : v j ≡ (wire_value v a && wire_value v b) = r.gate j (And a b) is in
       rw (value_even v w (omega arith), e) g;
 }

@@ -5,7 +5,6 @@ use Rattle.gate_graph.specs.declared.wires.Wire.{Wire}
 use Rattle.gate_graph.specs.declared.nodes.Node.{Node}
 use Rattle.gate_graph.specs.declared.nodes.Node.TheVariants.{Zero, Latch, Input, And}
 use Rattle.gate_graph.specs.Gates.{IsLow, AreLow, AreCounted, IsGraph, latch_count, input_count}
-use Rattle.gate_graph.specs.Held.{IsHeld}
 use Rattle.gate_graph.proofs.ListLemmas.{get_kept, get_push}
 
 pub latches_within : (ns : List Node) → latch_count ns ≤ length ns
@@ -101,31 +100,3 @@ node_numbered ns i Zero g h = tt
 node_numbered ns i (Latch n) g h = omega (arith, latch_within ns i n 0 0 g.counted h)
 node_numbered ns i (Input n) g h = omega (arith, input_within ns i n 0 0 g.counted h)
 node_numbered ns i (And a b) g h = tt
-
--- the counters of a graph fit, and stay right as a node is added
-pub held_within : (ns : List Node) (l x : ℕ) → IsHeld ns l x → (l ≤ length ns) × (x ≤ length ns)
-held_within ns l x h = (omega (arith, h.latched, latches_within ns), omega (arith, h.numbered, inputs_within ns))
-
-pub held_latch : (ns : List Node) (l x : ℕ) → IsHeld ns l x → length ns + 1 < 2 ^ 31 → IsHeld (ns ++ Latch l ∷ []) (l + 1) x
-held_latch ns l x h room = record {
-  graph = record { low = low_push ns (Latch l) h.graph.low tt; counted = counted_push ns (Latch l) 0 0 h.graph.counted (omega (arith, h.latched), tt) };
-  small = omega (arith, length-append ns (Latch l ∷ []));
-  latched = omega (arith, h.latched, latch_count-push ns (Latch l));
-  numbered = omega (arith, h.numbered, input_count-push ns (Latch l));
-}
-
-pub held_input : (ns : List Node) (l x : ℕ) → IsHeld ns l x → length ns + 1 < 2 ^ 31 → IsHeld (ns ++ Input x ∷ []) l (x + 1)
-held_input ns l x h room = record {
-  graph = record { low = low_push ns (Input x) h.graph.low tt; counted = counted_push ns (Input x) 0 0 h.graph.counted (omega (arith, h.numbered), tt) };
-  small = omega (arith, length-append ns (Input x ∷ []));
-  latched = omega (arith, h.latched, latch_count-push ns (Input x));
-  numbered = omega (arith, h.numbered, input_count-push ns (Input x));
-}
-
-pub held_and : (ns : List Node) (l x : ℕ) (a b : Wire) → IsHeld ns l x → length ns + 1 < 2 ^ 31 → IsLow (length ns) (And a b) → IsHeld (ns ++ And a b ∷ []) l x
-held_and ns l x a b h room low = record {
-  graph = record { low = low_push ns (And a b) h.graph.low low; counted = counted_push ns (And a b) 0 0 h.graph.counted tt };
-  small = omega (arith, length-append ns (And a b ∷ []));
-  latched = omega (arith, h.latched, latch_count-push ns (And a b));
-  numbered = omega (arith, h.numbered, input_count-push ns (And a b));
-}

@@ -1,8 +1,11 @@
 //! Laws of node values.
 
-ghost use Rattle.std.specs.Prelude.{◌≡◌, ℕ, ◌<◌, Bool, List, length};
+ghost use Rattle.std.specs.Prelude.{◌≡◌, ℕ, ◌+◌, ◌<◌, Bool, List, [], ◌∷◌, ◌++◌, length};
 ghost use Rattle.gate_graph.specs.declared.nodes.Node.{Node};
-ghost use Rattle.gate_graph.specs.Gates.{IsGraph, Respects};
+ghost use Rattle.gate_graph.specs.declared.nodes.Node.TheVariants.{Latch, Input};
+ghost use Rattle.gate_graph.specs.declared.wires.Wire.{Wire};
+ghost use Rattle.gate_graph.specs.Gates.{wire_value, IsGraph, IsOf, Keeps, Respects, latch_count, input_count};
+ghost use Rattle.gate_graph.specs.Sharing.{ConjunctionGives};
 ghost use Rattle.gate_graph.specs.Values.{value, IsValuation};
 
 /// Under all latches and inputs, the values of a graph's nodes are what each node says.
@@ -25,4 +28,21 @@ pub fn values_are_unique()
 pub fn values_respect_gates()
     ensures { (latches inputs : List Bool) (v : ℕ → Bool) (nodes : List Node)
         → IsValuation latches inputs v nodes → Respects v nodes }
+{}
+
+/// What a conjunction gives as a function of the nodes: at most one gate more, and a wire of its value.
+pub fn conjunction_gives()
+    ensures { ConjunctionGives }
+{}
+
+/// As nodes are added, the wires of earlier nodes keep their values.
+pub fn earlier_values_stay()
+    ensures { (latches inputs : List Bool) (old new : List Node) → IsGraph old → IsGraph new → Keeps old new
+        → (w : Wire) → IsOf w old → wire_value (value latches inputs new) w ≡ wire_value (value latches inputs old) w }
+{}
+
+/// A latch node or an input node more is one latch or one input more.
+pub fn latches_and_inputs_are_counted()
+    ensures latch { (nodes : List Node) (n : ℕ) → (latch_count (nodes ++ Latch n ∷ []) ≡ latch_count nodes + 1) × (input_count (nodes ++ Latch n ∷ []) ≡ input_count nodes) }
+    ensures input { (nodes : List Node) (n : ℕ) → (latch_count (nodes ++ Input n ∷ []) ≡ latch_count nodes) × (input_count (nodes ++ Input n ∷ []) ≡ input_count nodes + 1) }
 {}

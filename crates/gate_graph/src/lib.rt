@@ -2,9 +2,11 @@
 //! them, and circuits whose latches go from edge to edge.
 #![tactic(auto)]
 
+mod check;
 pub mod circuits;
 pub mod graphs;
 pub mod laws;
+mod next;
 pub mod nodes;
 pub mod parts;
 mod values;
@@ -13,7 +15,7 @@ pub mod wires;
 pub use circuits::Circuit;
 pub use graphs::Graph;
 pub use nodes::Node;
-pub use parts::{Latch, Start};
+pub use parts::{CircuitParts, Latch, Start};
 pub use wires::Wire;
 
 #[cfg(test)]

@@ -38,7 +38,7 @@ fn value_of(node: Node, i: usize, latches: &[bool], inputs: &[bool], table: &[bo
 
 /// The value of a wire, where the table has the value of its node.
 #[tactic(auto, unfolding(crate::specs::Gates::wire_value))]
-fn value_at(wire: Wire, table: &[bool]) -> bool
+pub(crate) fn value_at(wire: Wire, table: &[bool]) -> bool
     requires { wire.0 / 2 < length table.now }
     ensures { result ≡ wire_value (at table.now) wire }
 {

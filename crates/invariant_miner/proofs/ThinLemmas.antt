@@ -77,15 +77,6 @@ leaves_by c set s next xs k is =
 pub one_edge : (c : Circuit) (set : List (List LatchLiteral)) (s : List Bool) (xs : List (List Bool)) → IsKeepEdge c set s xs → length xs ≡ 1
 one_edge c set s xs k = ap length k.one
 
--- the next state by the values of the nodes
-map_same : {X Y : Type 0} (f g : X → Y) (xs : List X) → ((i : ℕ) (x : X) → slice_get xs i ≡ Some x → f x ≡ g x) → map f xs ≡ map g xs
-map_same f g [] h = refl
-map_same f g (x ∷ xs) h = rw (h 0 x refl, map_same f g xs (λ i y is. h (suc i) y is)) refl
-
-pub next_by_values : (c : Circuit) (s x : List Bool) (v : ℕ → Bool) → IsValuation s x v c.graph → map (λ (l : Latch). wire_value v l.next) c.latches.items ≡ next_state c s x
-unfolding next_state
-next_by_values c s x v p = map_same (λ (l : Latch). wire_value v l.next) (λ (l : Latch). wire_value (value s x c.graph) l.next) c.latches.items (λ i l is. wire_agrees c s x v l.next p (next_of c i l is))
-
 -- fewer clauses are left
 pub dropped_less : (next : List Bool) (current left : List (List LatchLiteral)) → left ≡ filter (meets next) current → (MeetsAll next current → ⊥) → length left < length current
 dropped_less next current left e fails =

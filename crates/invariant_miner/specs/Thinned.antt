@@ -8,6 +8,7 @@ use Rattle.gate_graph.specs.declared.circuits.Circuit.{Circuit}
 use Rattle.gate_graph.specs.Runs.{next_state}
 use Rattle.unroll_cnf.specs.declared.latch_literal.LatchLiteral.{LatchLiteral}
 use Rattle.unroll_cnf.specs.Latches.{MeetsAll, AreOfLatches, weight}
+use Rattle.unroll_cnf.specs.declared.limits.TheConstants.{MOST_WEIGHT}
 use Rattle.unroll_cnf.specs.Queries.{keep_clauses}
 use Rattle.invariant_miner.specs.declared.set.InductiveSet.{InductiveSet}
 use Rattle.invariant_miner.specs.declared.asked.Asked.{Asked}
@@ -49,7 +50,7 @@ pub record IsMiningSpent (c : Circuit) (list : List (List LatchLiteral)) (budget
 -- the set may be asked about: its clauses are of the circuit's latches, and not too many
 pub record IsAskable (c : Circuit) (set : List (List LatchLiteral)) : Type 0 where
   pub of : AreOfLatches (length c.latches.items) set
-  pub small : weight set ≤ 2 ^ 28
+  pub small : weight set ≤ MOST_WEIGHT
 
 -- what is said of the set that is kept, and of the lemmas of a spent budget
 abbrev pub IfKept : Thinned → (InductiveSet → Type 0) → Type 0

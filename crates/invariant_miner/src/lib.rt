@@ -10,7 +10,6 @@ mod draws;
 mod kept_tests;
 mod lanes;
 pub mod laws;
-mod next;
 mod rows;
 mod samples;
 pub mod set;
@@ -20,4 +19,5 @@ pub mod thin;
 pub mod thinned;
 
 pub use set::InductiveSet;
+pub use thin::MOST_LEMMAS;
 pub use thinned::Thinned;

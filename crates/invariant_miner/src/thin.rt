@@ -13,7 +13,6 @@ ghost use Rattle.invariant_miner.specs.Kept.{IsGreatestClosed};
 ghost use Rattle.invariant_miner.specs.Thinned.{AskedIs, LeavesSet, IsInductive, IsAskable, IsMiningSpent, IfKept, IfMiningSpent};
 
 use crate::asked::Asked;
-use crate::next::next_of;
 use crate::set::InductiveSet;
 use crate::thinned::Thinned;
 use clause_solver::answer::Solved;
@@ -24,6 +23,9 @@ use std::alloc::{AllocError, Global};
 use std::vec::Vec;
 use unroll_cnf::{CircuitRun, LatchClause, keep_query, run_of};
 
+/// The most lemmas that a query may take.
+pub const MOST_LEMMAS: u32 = 200_000;
+
 /// The state after the one edge of the run.
 fn after_edge(alloc: Global, circuit: &Circuit, run: &CircuitRun) -> Result<Vec<bool>, AllocError>
     requires sizes { HasSizes circuit.now run.now }
@@ -31,7 +33,7 @@ fn after_edge(alloc: Global, circuit: &Circuit, run: &CircuitRun) -> Result<Vec<
     ensures { IfOk result (λ v. v.items ≡ next_state circuit.now run.now.start.items (slice_index_or (edges_of run.now) 0 [])) }
 {
     let inputs = run.inputs[0].as_slice();
-    let next = next_of(alloc, circuit, run.start.as_slice(), inputs)?;
+    let next = circuit.next_state(alloc, run.start.as_slice(), inputs)?;
     Ok(next)
 }
 
@@ -59,9 +61,8 @@ fn ask(
     budget: u32,
 ) -> Result<Asked, AllocError>
     requires some { 1 ≤ budget }
-    requires few { budget ≤ 200000 }
-    requires of { AreOfLatches (length circuit.now.latches.items) set.now }
-    requires small { weight set.now ≤ 2 ^ 28 }
+    requires few { budget ≤ MOST_LEMMAS }
+    requires askable { IsAskable circuit.now set.now }
     ensures { IfOk result (AskedIs circuit.now set.now budget) }
 {
     let query = keep_query(alloc, circuit, set)?;
@@ -91,9 +92,8 @@ pub fn thin(
     budget: u32,
 ) -> Result<Thinned, AllocError>
     requires some { 1 ≤ budget }
-    requires few { budget ≤ 200000 }
-    requires of { AreOfLatches (length circuit.now.latches.items) list.items }
-    requires small { weight list.items ≤ 2 ^ 28 }
+    requires few { budget ≤ MOST_LEMMAS }
+    requires askable { IsAskable circuit.now list.items }
     ensures kept { IfOk result (λ t. IfKept t (λ set. IsGreatestClosed circuit.now list.items set.clauses.items)) }
     ensures kept_chains { IfOk result (λ t. IfKept t (IsInductive circuit.now)) }
     ensures kept_askable { IfOk result (λ t. IfKept t (λ set. IsAskable circuit.now set.clauses.items)) }

@@ -1,3 +1,2 @@
 pub mod InductionLemmas
 pub mod VerdictLemmas
-pub mod CountLemmas

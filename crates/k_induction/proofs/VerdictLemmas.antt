@@ -24,7 +24,7 @@ use Rattle.k_induction.specs.declared.query.Query.{Query}
 use Rattle.k_induction.specs.declared.query.Query.TheVariants as query
 use Rattle.k_induction.specs.Safety.{IsGoodFor, HasNoStep, IsLooseRun}
 use Rattle.k_induction.specs.Chains.{AreBases, RefuteStep, RefuteKeep}
-use Rattle.k_induction.specs.Verdicts.{IsSpentOf, IsProof, IsShortest, IsLoose, IsBaseSpent, IsStepSpent, BudgetIs}
+use Rattle.k_induction.specs.Verdicts.{IsSpentOf, IsBaseFound, IsStepFound, IsProof, IsShortest, IsLoose, IsBaseSpent, IsStepSpent, BudgetIs}
 use Rattle.k_induction.proofs.InductionLemmas.{good_by_base, step_refuted, safe_by_chains, step_more, safe_good, good_no_base, first_bad}
 
 pub refuted_by : (clauses wanted : List (List Literal)) (chains : List (List ℕ × List ℕ)) → clauses ≡ wanted → ReachesEmpty clauses chains → ReachesEmpty wanted chains
@@ -56,11 +56,12 @@ pub good_one_more : (c : Circuit) (k : ℕ) (chains : List Chain) → IsGoodFor 
 good_one_more c k chains g r = good_by_base c k g (none_solves (base_clauses c (k + 1)) (map link chains) r)
 
 -- the first bad run is a shortest one
-pub shortest_by : (c : Circuit) (bound k : ℕ) (r : CircuitRun) → IsGoodFor c k → k < bound → IsBaseRun c (k + 1) r.start.items (edges_of r) → IsShortest c bound r
+pub shortest_by : (c : Circuit) (bound k : ℕ) (r : CircuitRun) → IsGoodFor c k → k < bound → IsBaseFound c (k + 1) r → IsShortest c bound r
 shortest_by c bound k r g lt b = record {
-  bad = first_bad c k r.start.items (edges_of r) b g;
-  within = omega (arith, b.edges);
-  shortest = let e : k ≡ length (edges_of r) - 1 = omega (arith, b.edges) in subst (IsGoodFor c) e g;
+  sizes = b.sizes;
+  bad = first_bad c k r.start.items (edges_of r) b.run g;
+  within = omega (arith, b.run.edges);
+  shortest = let e : k ≡ length (edges_of r) - 1 = omega (arith, b.run.edges) in subst (IsGoodFor c) e g;
 }
 
 pub base_spent_by : (c : Circuit) (bound budget k : ℕ) (l : Lemmas) → IsGoodFor c k → k < bound → IsSpentOf (base_clauses c (k + 1)) ((k + 1) * length c.graph) budget l → IsBaseSpent c bound budget (k + 1) l
@@ -71,9 +72,10 @@ base_spent_by c bound budget k l g lt s = record {
   spent = s;
 }
 
-pub loose_by : (c : Circuit) (set : List (List LatchLiteral)) (bound k : ℕ) (r : CircuitRun) → IsGoodFor c k → k ≡ bound → IsStepRun c set k r.start.items (edges_of r) → IsLoose c set bound r
+pub loose_by : (c : Circuit) (set : List (List LatchLiteral)) (bound k : ℕ) (r : CircuitRun) → IsGoodFor c k → k ≡ bound → IsStepFound c set k r → IsLoose c set bound r
 loose_by c set bound k r g e s = record {
-  loose = subst (λ n. IsStepRun c set n r.start.items (edges_of r)) e s;
+  sizes = s.sizes;
+  loose = subst (λ n. IsStepRun c set n r.start.items (edges_of r)) e s.run;
   good = subst (IsGoodFor c) e g;
 }
 

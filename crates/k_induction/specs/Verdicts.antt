@@ -11,7 +11,7 @@ use Rattle.unroll_cnf.specs.declared.latch_literal.LatchLiteral.{LatchLiteral}
 use Rattle.unroll_cnf.specs.declared.run.CircuitRun.{CircuitRun}
 use Rattle.unroll_cnf.specs.Runs.{IsBaseRun, IsStepRun}
 use Rattle.unroll_cnf.specs.Queries.{base_clauses, step_clauses}
-use Rattle.unroll_cnf.specs.Meaning.{edges_of}
+use Rattle.unroll_cnf.specs.Meaning.{edges_of, HasSizes}
 use Rattle.invariant_miner.specs.declared.set.InductiveSet.{InductiveSet}
 use Rattle.k_induction.specs.declared.answer.Answer.{Answer}
 use Rattle.k_induction.specs.declared.answer.Answer.TheVariants as answer
@@ -30,6 +30,15 @@ pub record IsSpentOf (clauses : List (List Literal)) (vars budget : ℕ) (l : Le
   pub same_vars : l.formula.vars ≡ vars
   pub spent : IsSpent l l.formula budget
 
+-- a run that is found has one value for each latch at the start, and one for each input at each edge
+pub record IsBaseFound (c : Circuit) (k : ℕ) (r : CircuitRun) : Type 0 where
+  pub sizes : HasSizes c r
+  pub run : IsBaseRun c k r.start.items (edges_of r)
+
+pub record IsStepFound (c : Circuit) (set : List (List LatchLiteral)) (k : ℕ) (r : CircuitRun) : Type 0 where
+  pub sizes : HasSizes c r
+  pub run : IsStepRun c set k r.start.items (edges_of r)
+
 -- what the solver found out about a query of these clauses, whose runs are of this kind
 abbrev pub AnswerIs : List (List Literal) → ℕ → ℕ → (CircuitRun → Type 0) → Answer → Type 0
 AnswerIs clauses vars budget kind (answer.Refuted chains) = ReachesEmpty clauses (map link chains.items)
@@ -37,10 +46,10 @@ AnswerIs clauses vars budget kind (answer.Holds run) = kind run
 AnswerIs clauses vars budget kind (answer.Spent l) = IsSpentOf clauses vars budget l
 
 abbrev pub BaseIs : Circuit → ℕ → ℕ → Answer → Type 0
-BaseIs c k budget = AnswerIs (base_clauses c k) (k * length c.graph) budget (λ r. IsBaseRun c k r.start.items (edges_of r))
+BaseIs c k budget = AnswerIs (base_clauses c k) (k * length c.graph) budget (IsBaseFound c k)
 
 abbrev pub StepIs : Circuit → List (List LatchLiteral) → ℕ → ℕ → Answer → Type 0
-StepIs c set k budget = AnswerIs (step_clauses c set k) ((k + 1) * length c.graph) budget (λ r. IsStepRun c set k r.start.items (edges_of r))
+StepIs c set k budget = AnswerIs (step_clauses c set k) ((k + 1) * length c.graph) budget (IsStepFound c set k)
 
 -- chains that refute the base queries of 1 to k edges and the step query of k, k at most the bound
 pub record IsProof (c : Circuit) (set : List (List LatchLiteral)) (bound k : ℕ) (bases : List (List Chain)) (step : List Chain) : Type 0 where
@@ -52,12 +61,14 @@ pub record IsProof (c : Circuit) (set : List (List LatchLiteral)) (bound k : ℕ
 
 -- a shortest bad run, of at most `bound` edges
 pub record IsShortest (c : Circuit) (bound : ℕ) (r : CircuitRun) : Type 0 where
+  pub sizes : HasSizes c r
   pub bad : IsBadRun c r.start.items (edges_of r)
   pub within : length (edges_of r) ≤ bound
   pub shortest : IsGoodFor c (length (edges_of r) - 1)
 
 -- a loose run of `bound` good edges and a bad one, where no run of at most `bound` edges from the start is bad
 pub record IsLoose (c : Circuit) (set : List (List LatchLiteral)) (bound : ℕ) (r : CircuitRun) : Type 0 where
+  pub sizes : HasSizes c r
   pub loose : IsStepRun c set bound r.start.items (edges_of r)
   pub good : IsGoodFor c bound
 

@@ -1,14 +1,16 @@
 //! Asking the solver.
 
 ghost use Rattle.std.specs.Prelude.{◌≡◌, ◌+◌, ◌*◌, ◌^◌, ◌<◌, ◌≤◌, length, IfOk};
-ghost use Rattle.unroll_cnf.specs.Latches.{AreOfLatches, weight};
+ghost use Rattle.invariant_miner.specs.Thinned.{IsAskable};
 ghost use Rattle.k_induction.specs.Verdicts.{BaseIs, StepIs};
 
 use crate::answer::Answer;
 use clause_solver::answer::Solved;
 use clause_solver::solver::solve;
 use gate_graph::Circuit;
+use invariant_miner::MOST_LEMMAS;
 use std::alloc::{AllocError, Global};
+use unroll_cnf::limits::MOST_EDGES;
 use unroll_cnf::{LatchClause, base_query, run_of, step_query};
 
 /// Whether a run of `k` edges from the start is bad at its last edge.
@@ -19,9 +21,9 @@ pub(crate) fn ask_base(
     budget: u32,
 ) -> Result<Answer, AllocError>
     requires some { 1 ≤ k }
-    requires few { k ≤ 32 }
+    requires few { k ≤ MOST_EDGES }
     requires budget { 1 ≤ budget }
-    requires small_budget { budget ≤ 200000 }
+    requires small_budget { budget ≤ MOST_LEMMAS }
     ensures { IfOk result (BaseIs circuit.now k budget) }
 {
     let query = base_query(alloc, circuit, k)?;
@@ -43,11 +45,10 @@ pub(crate) fn ask_step(
     k: u32,
     budget: u32,
 ) -> Result<Answer, AllocError>
-    requires few { k ≤ 32 }
+    requires few { k ≤ MOST_EDGES }
     requires budget { 1 ≤ budget }
-    requires small_budget { budget ≤ 200000 }
-    requires of { AreOfLatches (length circuit.now.latches.items) set.now }
-    requires small { weight set.now ≤ 2 ^ 28 }
+    requires small_budget { budget ≤ MOST_LEMMAS }
+    requires askable { IsAskable circuit.now set.now }
     ensures { IfOk result (StepIs circuit.now set.now k budget) }
 {
     let query = step_query(alloc, circuit, k, set)?;

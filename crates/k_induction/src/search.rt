@@ -1,7 +1,7 @@
 //! The search over base and step queries.
 
 ghost use Rattle.std.specs.Prelude.{◌≡◌, ◌+◌, ◌^◌, ◌<◌, ◌≤◌, length, map, IfOk};
-ghost use Rattle.unroll_cnf.specs.Latches.{AreOfLatches, weight};
+ghost use Rattle.invariant_miner.specs.Thinned.{IsAskable};
 ghost use Rattle.k_induction.specs.Verdicts.{FoundIs};
 
 use crate::answer::Answer;
@@ -9,9 +9,11 @@ use crate::asking::{ask_base, ask_step};
 use crate::found::Found;
 use crate::query::Query;
 use gate_graph::Circuit;
+use invariant_miner::MOST_LEMMAS;
 use std::alloc::{AllocError, Global};
 use std::vec::Vec;
 use unroll_cnf::LatchClause;
+use unroll_cnf::limits::MOST_EDGES;
 
 /// Asks base and step queries of 1 edge, then 2, up to the bound, until one of them settles it.
 pub(crate) fn search(
@@ -22,11 +24,10 @@ pub(crate) fn search(
     budget: u32,
 ) -> Result<Found, AllocError>
     requires some { 1 ≤ bound }
-    requires few { bound ≤ 32 }
+    requires few { bound ≤ MOST_EDGES }
     requires budget { 1 ≤ budget }
-    requires small_budget { budget ≤ 200000 }
-    requires of { AreOfLatches (length circuit.now.latches.items) set.now }
-    requires small { weight set.now ≤ 2 ^ 28 }
+    requires small_budget { budget ≤ MOST_LEMMAS }
+    requires askable { IsAskable circuit.now set.now }
     ensures { IfOk result (FoundIs circuit.now set.now bound budget) }
 {
     let mut bases = Vec::new(alloc);

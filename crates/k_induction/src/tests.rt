@@ -1,14 +1,12 @@
 //! Small circuits, each verdict worked out by hand.
 
 ghost use Rattle.std.specs.Prelude.{◌≡◌, ◌+◌, ◌*◌, ◌^◌, ◌<◌, ◌≤◌, [], ◌∷◌, length, slice_get, All, IfOk, IfSome, IsTrue};
-ghost use Rattle.gate_graph.specs.Gates.{latch_count, input_count};
-ghost use Rattle.gate_graph.specs.Latches.{StartsAtZero};
 ghost use Rattle.invariant_miner.specs.Thinned.{IsAskable};
 
 use crate::decide::decide;
 use crate::query::Query;
 use crate::verdict::Verdict;
-use gate_graph::{Circuit, Graph, Latch, Node, Start, Wire};
+use gate_graph::{Circuit, CircuitParts, Graph, Latch, Start, Wire};
 use invariant_miner::candidates::candidates;
 use invariant_miner::thin::thin;
 use invariant_miner::{InductiveSet, Thinned};
@@ -28,141 +26,69 @@ struct Parts {
     bad: u32,
 }
 
-/// 1 for a latch, else 0.
-fn latch_weight(node: Node) -> u32
-    ensures value { result ≡ latch_count (node ∷ []) }
-    ensures small { result ≤ 1 }
-{
-    match node {
-        Node::Latch(_) => 1,
-        Node::Zero | Node::Input(_) | Node::And(_, _) => 0,
+/// The wire of this number, where these are the wires of the nodes; gates that are alike are one node.
+fn wire_of(nodes: &[Wire], number: u32) -> Wire {
+    match nodes.get((number / 2) as usize) {
+        Some(wire) if number % 2 == 1 => wire.inverted(),
+        Some(wire) => *wire,
+        None => Wire(u32::MAX),
     }
 }
 
-/// 1 for an input, else 0.
-fn input_weight(node: Node) -> u32
-    ensures value { result ≡ input_count (node ∷ []) }
-    ensures small { result ≤ 1 }
-{
-    match node {
-        Node::Input(_) => 1,
-        Node::Zero | Node::Latch(_) | Node::And(_, _) => 0,
-    }
-}
-
-/// How many latches the graph has.
-fn count_latches(graph: &Graph) -> u32
-    ensures { result ≡ latch_count graph.now }
-{
-    let mut total = 0;
-    for i in 0..graph.size() {
-        total += latch_weight(graph.node(i));
-    }
-    total
-}
-
-/// How many inputs the graph has.
-fn count_inputs(graph: &Graph) -> u32
-    ensures { result ≡ input_count graph.now }
-{
-    let mut total = 0;
-    for i in 0..graph.size() {
-        total += input_weight(graph.node(i));
-    }
-    total
-}
-
-/// The graph of the parts, as far as their wires are of it.
-fn graph_of(alloc: Global, parts: Parts) -> Result<Graph, AllocError> {
+/// The graph of the parts, as far as their wires are of it, and the wires of its nodes.
+fn graph_of(alloc: Global, parts: Parts) -> Result<(Graph, Vec<Wire>), AllocError> {
     let mut graph = Graph::new(alloc)?;
+    let mut nodes = Vec::new(alloc);
+    nodes.push(graph.zero())?;
     for _ in 0..parts.latches.len() {
         if graph.size() < 1000 {
-            graph.latch()?;
+            nodes.push(graph.latch()?)?;
         }
     }
     for _ in 0..parts.inputs {
         if graph.size() < 1000 {
-            graph.input()?;
+            nodes.push(graph.input()?)?;
         }
     }
     for (a, b) in parts.gates {
         let size = graph.size();
-        if size < 1000 && *a < 2 * size && *b < 2 * size {
-            graph.and(Wire(*a), Wire(*b))?;
+        let left = wire_of(nodes.as_slice(), *a);
+        let right = wire_of(nodes.as_slice(), *b);
+        if size < 1000 && left.0 < 2 * size && right.0 < 2 * size {
+            nodes.push(graph.and(left, right)?)?;
         }
     }
-    Ok(graph)
+    Ok((graph, nodes))
 }
 
 /// The latches of the parts.
-fn latches_of(alloc: Global, parts: Parts) -> Result<Vec<Latch>, AllocError> {
+fn latches_of(alloc: Global, parts: Parts, nodes: &[Wire]) -> Result<Vec<Latch>, AllocError> {
     let mut latches = Vec::new(alloc);
     for (start, next) in parts.latches {
         latches.push(Latch {
             start: *start,
-            next: Wire(*next),
+            next: wire_of(nodes, *next),
         })?;
     }
     Ok(latches)
 }
 
-/// Whether the latches' next wires are of a graph of this size.
-fn all_within(latches: &[Latch], size: u32) -> bool
-    ensures { IsTrue result → All (λ l. l.next.0 < 2 * size) latches.now }
-{
-    latches
-        .iter()
-        .all(|latch| u64::from(latch.next.0) < 2 * u64::from(size))
-}
-
-/// Latch 0, if there is one.
-fn first_of(latches: &[Latch]) -> Option<Latch>
-    ensures { result ≡ slice_get latches.now 0 }
-{
-    latches.first().copied()
-}
-
-/// Whether latch 0 is there and starts at 0.
-fn starts_at_zero(latches: &[Latch]) -> bool
-    ensures { IsTrue result → StartsAtZero latches.now }
-{
-    match first_of(latches) {
-        Some(latch) => match latch.start {
-            Start::Zero => true,
-            Start::One | Start::Free => false,
-        },
-        None => false,
-    }
-}
-
 /// The circuit of the parts, if they fit.
 fn circuit_of(alloc: Global, parts: Parts) -> Result<Option<Circuit>, AllocError> {
-    let graph = graph_of(alloc, parts)?;
-    let latches = latches_of(alloc, parts)?;
-    let size = graph.size();
-    let inputs = count_inputs(&graph);
-    if size > 1000 || parts.bad >= 2 * size {
-        return Ok(None);
-    }
-    if count_latches(&graph) as usize != latches.len() {
-        return Ok(None);
-    }
-    if !all_within(latches.as_slice(), size) {
-        return Ok(None);
-    }
-    if !starts_at_zero(latches.as_slice()) {
-        return Ok(None);
-    }
-    Ok(Some(Circuit {
+    let (graph, nodes) = graph_of(alloc, parts)?;
+    let latches = latches_of(alloc, parts, nodes.as_slice())?;
+    let inputs = graph.input_count();
+    let parts = CircuitParts {
         graph,
         latches,
         inputs,
-        bad: Wire(parts.bad),
+        bad: wire_of(nodes.as_slice(), parts.bad),
         address_first: 0,
         address_bits: 0,
         addresses: Vec::new(alloc),
         control: Vec::new(alloc),
-    }))
+    };
+    Ok(Circuit::check(parts).ok())
 }
 
 /// The circuit with latches 1 and 2 as control latches, if it has more than these.

@@ -7,3 +7,4 @@ pub mod ChainLemmas
 pub mod Semantics
 pub mod LawProofs
 pub mod RangeLemmas
+pub mod SameSets

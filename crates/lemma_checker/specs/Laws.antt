@@ -1,8 +1,8 @@
 -- Laws of clauses, chains, propagation and new clauses, which the solver and the checker of certificates cite.
-use Rattle.std.specs.Prelude.{◌≡◌, ℕ, ◌+◌, ◌*◌, Bool, true, false, List, Some, slice_get}
+use Rattle.std.specs.Prelude.{◌≡◌, ℕ, ◌+◌, ◌*◌, Bool, true, false, List, ◌++◌, map, Some, slice_get}
 use Rattle.lemma_checker.specs.declared.literal.Literal.{Literal}
 use Rattle.lemma_checker.specs.Clauses.{has, set_of, Follows, HasNoSolution}
-use Rattle.lemma_checker.specs.Chains.{clashes, resolved, chain_result, AreDerived, ReachesEmpty}
+use Rattle.lemma_checker.specs.Chains.{clashes, resolved, chain_result, has_empty, AreDerived, ReachesEmpty}
 use Rattle.lemma_checker.specs.Propagation.{IsPropagation, IsConflictFree, DoesNotConflict, IsNew, opposites_but}
 
 -- the first list's clauses are all in the second
@@ -48,3 +48,18 @@ NewHasNoVariableTwice = (clauses : List (List Literal)) (c : List Literal) → I
 -- a resolvent of two clauses of the list that share no literal is not new
 abbrev pub ResolventIsNotNew : Type 0
 ResolventIsNotNew = (clauses : List (List Literal)) (i j p : ℕ) (a b c : List Literal) → slice_get clauses i ≡ Some a → slice_get clauses j ≡ Some b → clashes p (set_of a) (set_of b) ≡ true → set_of c ≡ resolved p (set_of a) (set_of b) → ((l : ℕ) → has l a ≡ true → has l b ≡ true → ⊥) → IsNew clauses c → ⊥
+
+-- the clauses are the same sets of literals, in the same order
+abbrev pub AreSameSets : List (List Literal) → List (List Literal) → Type 0
+AreSameSets some others = map set_of some ≡ map set_of others
+
+-- what a chain gives depends on the clauses as sets of literals alone
+abbrev pub ChainGoesBySets : Type 0
+ChainGoesBySets = (some others : List (List Literal)) (ids pivots : List ℕ) → AreSameSets some others → chain_result some ids pivots ≡ chain_result others ids pivots
+
+-- so do the clauses that chains add, and whether one is empty
+abbrev pub AddedGoBySets : Type 0
+AddedGoBySets = (clauses added again : List (List Literal)) (chains : List (List ℕ × List ℕ)) → AreDerived clauses added chains → AreDerived clauses again chains → AreSameSets added again
+
+abbrev pub EmptyGoesBySets : Type 0
+EmptyGoesBySets = (some others : List (List Literal)) → AreSameSets some others → has_empty some ≡ has_empty others

@@ -1,7 +1,7 @@
 //! Laws of clauses, chains, propagation and new clauses, each the contract of a function that does
 //! nothing.
 
-ghost use Rattle.lemma_checker.specs.Laws.{ResolventFollows, ChainFollows, AddedFollow, RefutedHasNoSolution, PropagationGrows, LeastDoesNotConflict, NewIsNotGiven, NewContainsNone, NewHasNoVariableTwice, ResolventIsNotNew};
+ghost use Rattle.lemma_checker.specs.Laws.{ResolventFollows, ChainFollows, AddedFollow, RefutedHasNoSolution, PropagationGrows, LeastDoesNotConflict, NewIsNotGiven, NewContainsNone, NewHasNoVariableTwice, ResolventIsNotNew, ChainGoesBySets, AddedGoBySets, EmptyGoesBySets};
 
 /// A resolvent of two clauses follows from them.
 pub fn resolvent_follows()
@@ -52,4 +52,11 @@ pub fn new_has_no_variable_twice()
 /// A resolvent of two clauses of the list that share no literal is never new to it.
 pub fn resolvent_is_not_new()
     ensures { ResolventIsNotNew }
+{}
+
+/// What chains give, and whether a clause is empty, depends on the clauses as sets of literals alone.
+pub fn chains_go_by_sets()
+    ensures result { ChainGoesBySets }
+    ensures added { AddedGoBySets }
+    ensures empty { EmptyGoesBySets }
 {}

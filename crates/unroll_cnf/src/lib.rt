@@ -5,6 +5,7 @@ mod edges;
 pub mod latch_clause;
 pub mod latch_literal;
 pub mod laws;
+pub mod limits;
 mod literals;
 mod model;
 mod places;

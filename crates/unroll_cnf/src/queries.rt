@@ -6,6 +6,7 @@ ghost use Rattle.unroll_cnf.specs.Queries.{base_clauses, step_clauses, keep_clau
 
 use crate::edges::{first_variable, push_bad, push_good, push_run, push_starts};
 use crate::latch_clause::LatchClause;
+use crate::limits::{MOST_EDGES, MOST_WEIGHT};
 use crate::places::latch_nodes;
 use crate::sets::{Scratch, push_all_broken, push_set, push_some};
 use gate_graph::Circuit;
@@ -17,7 +18,7 @@ use std::vec::Vec;
 /// The clauses of the base query.
 fn base_list(alloc: Global, circuit: &Circuit, k: u32) -> Result<Clauses, AllocError>
     requires some { 1 ≤ k }
-    requires few { k ≤ 32 }
+    requires few { k ≤ MOST_EDGES }
     ensures { IfOk result (λ list. list ≡ base_clauses circuit.now k) }
 {
     let mut out = Clauses::new(alloc);
@@ -42,7 +43,7 @@ fn step_list(
     k: u32,
     set: &[LatchClause],
 ) -> Result<Clauses, AllocError>
-    requires few { k ≤ 32 }
+    requires few { k ≤ MOST_EDGES }
     requires of { AreOfLatches (length circuit.now.latches.items) set.now }
     ensures { IfOk result (λ list. list ≡ step_clauses circuit.now set.now k) }
 {
@@ -67,7 +68,7 @@ fn step_list(
 /// The clauses of the keep query.
 fn keep_list(alloc: Global, circuit: &Circuit, set: &[LatchClause]) -> Result<Clauses, AllocError>
     requires of { AreOfLatches (length circuit.now.latches.items) set.now }
-    requires small { length set.now ≤ 2 ^ 28 }
+    requires small { length set.now ≤ MOST_WEIGHT }
     ensures { IfOk result (λ list. list ≡ keep_clauses circuit.now set.now) }
 {
     let places = latch_nodes(alloc, circuit)?;
@@ -92,7 +93,7 @@ fn keep_list(alloc: Global, circuit: &Circuit, set: &[LatchClause]) -> Result<Cl
 /// The base query of `k` edges: the runs of `k` edges from the start that are bad at the last edge.
 pub fn base_query(alloc: Global, circuit: &Circuit, k: u32) -> Result<Formula, AllocError>
     requires some { 1 ≤ k }
-    requires few { k ≤ 32 }
+    requires few { k ≤ MOST_EDGES }
     ensures query { IfOk result (λ f. f.clauses ≡ base_clauses circuit.now k) }
     ensures few_clauses { IfOk result (λ f. length f.clauses < 2 ^ 30) }
     ensures few_variables { IfOk result (λ f. f.vars ≡ k * length circuit.now.graph) }
@@ -110,9 +111,9 @@ pub fn step_query(
     k: u32,
     set: &[LatchClause],
 ) -> Result<Formula, AllocError>
-    requires few { k ≤ 32 }
+    requires few { k ≤ MOST_EDGES }
     requires of { AreOfLatches (length circuit.now.latches.items) set.now }
-    requires small { weight set.now ≤ 2 ^ 28 }
+    requires small { weight set.now ≤ MOST_WEIGHT }
     ensures query { IfOk result (λ f. f.clauses ≡ step_clauses circuit.now set.now k) }
     ensures few_clauses { IfOk result (λ f. length f.clauses < 2 ^ 30) }
     ensures few_variables { IfOk result (λ f. f.vars ≡ (k + 1) * length circuit.now.graph) }
@@ -129,7 +130,7 @@ pub fn keep_query(
     set: &[LatchClause],
 ) -> Result<Formula, AllocError>
     requires of { AreOfLatches (length circuit.now.latches.items) set.now }
-    requires small { weight set.now ≤ 2 ^ 28 }
+    requires small { weight set.now ≤ MOST_WEIGHT }
     ensures query { IfOk result (λ f. f.clauses ≡ keep_clauses circuit.now set.now) }
     ensures few_clauses { IfOk result (λ f. length f.clauses < 2 ^ 30) }
     ensures few_variables { IfOk result (λ f. f.vars ≡ length circuit.now.graph + length set.now) }

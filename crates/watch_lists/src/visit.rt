@@ -96,6 +96,7 @@ fn next_open(watches: &[Watch], values: &[bool], start: usize) -> usize
     ensures past { start ≤ result }
     ensures within { result ≤ length watches.now }
     ensures blocked { (j : ℕ) (w : Watch) → start ≤ j → j < result → slice_get watches.now j ≡ Some w → at values.now w.blocker.0 ≡ true }
+    ensures open { (w : Watch) → slice_get watches.now result ≡ Some w → at values.now w.blocker.0 ≡ false }
 {
     let mut i = start;
     while i < watches.len() && is_marked(values, watches[i].blocker.0 as usize) {

@@ -4,7 +4,7 @@ use Rattle.gate_graph.specs.declared.parts.Latch.{Latch}
 use Rattle.gate_graph.specs.Gates.{wire_value}
 use Rattle.gate_graph.specs.Runs.{next_state}
 use Rattle.invariant_miner.specs.Lanes.{lane, lane_at}
-use Rattle.invariant_miner.proofs.StateLemmas.{next_by_values}
+use Rattle.gate_graph.proofs.NextLemmas.{next_by_values}
 use Rattle.invariant_miner.proofs.samples.step.Goals as goal
 
 pub returns-clause-lanes : goal.returns-clause-lanes

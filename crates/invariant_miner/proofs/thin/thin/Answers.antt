@@ -8,7 +8,7 @@ use Rattle.invariant_miner.proofs.ThinLemmas.{dropped_less, left_by}
 use Rattle.invariant_miner.proofs.thin.thin.Goals as goal
 
 pub loop-current-init : goal.loop-current-init
-loop-current-init c = record { above = above_all c.args.circuit.now c.args.list.items; of = c.requires.of; small = c.requires.small }
+loop-current-init c = record { above = above_all c.args.circuit.now c.args.list.items; askable = c.requires.askable }
 
 pub loop-current-smaller : goal.loop-current-smaller
 loop-current-smaller c =
@@ -23,6 +23,8 @@ loop-current-preserved c =
     record {
       above = above_drop c.args.circuit.now c.args.list.items c.loop-current.current.items c.keep_met.new.clauses.items leaves.start leaves.input c.loop-current.invariant.above leaves.meets
           (left_by c.in-Leaves.state.items (next_state c.args.circuit.now leaves.start leaves.input) c.loop-current.current.items c.keep_met.new.clauses.items left leaves.is);
-      of = subst (AreOfLatches (length c.args.circuit.now.latches.items)) (sym left) (filter_of (length c.args.circuit.now.latches.items) (meets c.in-Leaves.state.items) c.loop-current.current.items c.loop-current.invariant.of);
-      small = omega (arith, ap weight left, filter_weight (meets c.in-Leaves.state.items) c.loop-current.current.items, c.loop-current.invariant.small);
+      askable = record {
+        of = subst (AreOfLatches (length c.args.circuit.now.latches.items)) (sym left) (filter_of (length c.args.circuit.now.latches.items) (meets c.in-Leaves.state.items) c.loop-current.current.items c.loop-current.invariant.askable.of);
+        small = omega (arith, ap weight left, filter_weight (meets c.in-Leaves.state.items) c.loop-current.current.items, c.loop-current.invariant.askable.small);
+      };
     }

@@ -2,8 +2,8 @@ use Rattle.std.proofs.Common.{map, ap, ◌∙◌}
 use Rattle.gate_graph.specs.declared.parts.Latch.{Latch}
 use Rattle.gate_graph.specs.Gates.{wire_value}
 use Rattle.gate_graph.specs.Values.{at}
-use Rattle.invariant_miner.proofs.ThinLemmas.{next_by_values}
-use Rattle.invariant_miner.proofs.next.next_in.Goals as goal
+use Rattle.gate_graph.proofs.NextLemmas.{next_by_values}
+use Rattle.gate_graph.proofs.next.next_in.Goals as goal
 
 pub returns : goal.returns
 returns c =
