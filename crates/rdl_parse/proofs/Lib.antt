@@ -7,3 +7,4 @@ pub mod Nested
 pub mod Theorem
 pub mod Deep
 pub mod Faults
+pub mod OneAnswer

@@ -1,5 +1,5 @@
 -- Which descriptions have no reading, and where that shows first.
-use Rattle.std.specs.Prelude.{◌≡◌, ◌⊎◌, true, List, [], ◌∷◌, ◌++◌}
+use Rattle.std.specs.Prelude.{◌≡◌, ◌≢◌, ◌⊎◌, true, List, [], ◌∷◌, ◌++◌, Result, Ok, Err}
 use Rattle.bit_base.specs.declared.place.Place.{Place}
 use Rattle.rdl_tree.specs.declared.fault.RdlCode.{RdlCode}
 use Rattle.rdl_tree.specs.declared.fault.RdlCode.TheVariants.{RdlSyntax, RdlDeep}
@@ -50,6 +50,16 @@ Refuses tokens NoMemory = Unit {0}
 Refuses tokens (At RdlDeep place) = IsFirstDeep tokens.list place
 Refuses tokens (At RdlSyntax place) = IsShallow tokens.list × (HasNoReading tokens × IsFirstFault tokens place)
 Refuses tokens (At _ place) = ⊥
+
+-- what is answered, in all its cases
+abbrev pub Answers : RdlTokens → Result RdlFile RdlFault → Type 0
+Answers tokens (Ok file) = IsReading tokens file × IsShallow tokens.list
+Answers tokens (Err fault) = Refuses tokens fault
+
+-- But for want of memory, the tokens determine the answer.
+abbrev pub OneAnswer : Type 0
+OneAnswer =
+    (tokens : RdlTokens) (a b : Result RdlFile RdlFault) → Answers tokens a → Answers tokens b → a ≢ Err NoMemory → b ≢ Err NoMemory → a ≡ b
 
 -- two fitting trees with equal tokens are equal
 abbrev pub HasAtMostOneReading : Type 0

@@ -5,7 +5,7 @@ ghost use Rattle.rdl_tree.specs.Tree.{IsReading};
 ghost use Rattle.rdl_parse.specs.Depth as depth;
 ghost use Rattle.rdl_parse.specs.Depth.{IsShallow, IsFirstDeep};
 ghost use Rattle.rdl_parse.specs.Refusal.{Refuses};
-ghost use Rattle.rdl_parse.specs.Refusal.{OnCode, IsOfReader, HasNoReading, IsFirstFault, HasAtMostOneReading};
+ghost use Rattle.rdl_parse.specs.Refusal.{OnCode, IsOfReader, HasNoReading, IsFirstFault, HasAtMostOneReading, OneAnswer};
 ghost use Rattle.rdl_tree.specs.declared.fault.RdlCode.TheVariants as code;
 
 use crate::cursor::Cursor;
@@ -90,6 +90,7 @@ pub fn parse_rdl(alloc: Global, tokens: &RdlTokens) -> Result<RdlFile, RdlFault>
     ensures no_reading { IfErr result (OnCode code.RdlSyntax (λ _. HasNoReading tokens.now)) }
     ensures no_reading_place { IfErr result (OnCode code.RdlSyntax (IsFirstFault tokens.now)) }
     ensures codes { IfErr result IsOfReader }
+    ensures refused { IfErr result (Refuses tokens.now) }
 {
     read(alloc, tokens)
 }
@@ -98,4 +99,11 @@ pub fn parse_rdl(alloc: Global, tokens: &RdlTokens) -> Result<RdlFile, RdlFault>
 #[tactic(auto, using(crate::proofs::Theorem::one_reading))]
 pub fn at_most_one_reading()
     ensures { HasAtMostOneReading }
+{}
+
+/// What reading answers is determined by the tokens, but for want of memory: the tree and each refusal, with its place,
+/// exclude each other.
+#[tactic(auto, using(crate::proofs::OneAnswer::law))]
+pub fn one_answer()
+    ensures { OneAnswer }
 {}
