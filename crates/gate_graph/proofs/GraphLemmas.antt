@@ -1,7 +1,6 @@
 -- What a graph is stays as nodes are added at its end.
-use Rattle.std.proofs.Common.{◌≡◌, ℕ, ◌+◌, ◌^◌, ◌<◌, ◌≤◌, List, [], ◌∷◌, ◌++◌, length, slice_get, Some, arith, refl, sym, ◌∙◌, inl, inr, length-append, subst, zero, suc}
+use Rattle.std.proofs.Common.{◌≡◌, ℕ, ◌+◌, ◌<◌, ◌≤◌, List, [], ◌∷◌, ◌++◌, length, slice_get, Some, arith, refl, sym, ◌∙◌, inl, inr, subst, zero, suc}
 use Rattle.gate_graph.specs.Values.{IsNumbered}
-use Rattle.gate_graph.specs.declared.wires.Wire.{Wire}
 use Rattle.gate_graph.specs.declared.nodes.Node.{Node}
 use Rattle.gate_graph.specs.declared.nodes.Node.TheVariants.{Zero, Latch, Input, And}
 use Rattle.gate_graph.specs.Gates.{IsLow, AreLow, AreCounted, IsGraph, latch_count, input_count}

@@ -1,11 +1,10 @@
 -- Shared gates: where a gate is found, what a graph keeps as nodes are added, and what a conjunction gives.
-use Rattle.std.proofs.Common.{◌≡◌, ◌≢◌, ℕ, zero, suc, ◌+◌, ◌-◌, ◌*◌, ◌/◌, ◌^◌, ◌<◌, ◌≤◌, ◌==◌, Bool, true, false, ◌&&◌, ◌||◌, if◌then◌else◌, cond, nat_eq, nat_lt, List, [], ◌∷◌, ◌++◌, length, slice_get, Option, Some, None, arith, refl, sym, ap, ◌∙◌, ◌⊎◌, inl, inr, subst, length-append, eqb, eq-eqb, ne_eqb}
-use Rattle.std.proofs.lemmas.Option.{slice_get_within}
-use Rattle.std.proofs.lemmas.Bool.{eqb-true, cases_eq, ltb-true}
+use Rattle.std.proofs.Common.{◌≡◌, ◌≢◌, ℕ, suc, ◌+◌, ◌-◌, ◌/◌, ◌^◌, ◌<◌, ◌≤◌, ◌==◌, Bool, true, false, ◌&&◌, ◌||◌, if◌then◌else◌, cond, nat_eq, nat_lt, List, [], ◌∷◌, ◌++◌, length, slice_get, Option, Some, None, arith, refl, sym, ap, ◌∙◌, ◌⊎◌, inl, inr, subst, length-append, eq-eqb, ne_eqb}
+use Rattle.std.proofs.lemmas.Bool.{eqb-true, cases_eq}
 use Rattle.gate_graph.specs.declared.wires.Wire.{Wire}
 use Rattle.gate_graph.specs.declared.nodes.Node.{Node}
 use Rattle.gate_graph.specs.declared.nodes.Node.TheVariants.{Zero, Latch, Input, And}
-use Rattle.gate_graph.specs.Gates.{wire_value, IsOf, Extends, Means, IsLow, IsGraph, IsSimple, latch_count, input_count}
+use Rattle.gate_graph.specs.Gates.{wire_value, IsOf, Extends, Means, IsLow, IsSimple}
 use Rattle.gate_graph.specs.Held.{IsHeld}
 use Rattle.gate_graph.specs.Sharing.{wire_of, is_gate, gate_from, gate_or, gate_of, and_of, HasZero, Gives}
 use Rattle.gate_graph.proofs.GraphLemmas.{latches_within, inputs_within, latch_count-push, input_count-push, counted_push, low_push}

@@ -1,19 +1,13 @@
 -- The next states of 64 runs, from the values of the nodes.
-use Rattle.std.proofs.Common.{◌≡◌, ℕ, suc, ◌+◌, ◌*◌, ◌/◌, ◌%◌, ◌<◌, Bool, List, [], ◌∷◌, ◌++◌, length, length-append, map, slice_get, refl, ap, ◌∙◌, sym, arith, inl, inr, add-one, append_assoc}
+use Rattle.std.proofs.Common.{◌≡◌, ℕ, ◌+◌, ◌*◌, ◌/◌, ◌%◌, ◌<◌, List, [], ◌∷◌, ◌++◌, length, length-append, slice_get, refl, ap, ◌∙◌, sym, arith, inl, inr, add-one, append_assoc}
 use Rattle.std.proofs.lemmas.List.{append-nil, length_push}
 use Rattle.std.proofs.lemmas.Option.{slice_get_within}
 use Rattle.lemma_checker.proofs.ListLemmas.{get_push, get_either}
 use Rattle.invariant_miner.specs.Draws.{later}
 use Rattle.invariant_miner.specs.Lanes.{lane}
 use Rattle.invariant_miner.specs.Samples.{starts_in, after_starts, inputs_in, edge_draws, run_state, batch_draws, AreRows, HasBatch}
-use Rattle.std.specs.List.{All}
-use Rattle.gate_graph.specs.declared.nodes.Node.{Node}
-use Rattle.gate_graph.specs.declared.parts.Latch.{Latch}
 use Rattle.gate_graph.specs.declared.circuits.Circuit.{Circuit}
-use Rattle.gate_graph.specs.Gates.{wire_value, IsOf, IsGraph}
-use Rattle.gate_graph.specs.Values.{value, IsValuation}
 use Rattle.gate_graph.specs.Runs.{next_state}
-use Rattle.gate_graph.proofs.ValueLemmas.{wire_value_below, agree, value_is}
 
 -- runs and draws, edge by edge
 pub run_start : (c : Circuit) (g : List ℕ) (r : ℕ) → run_state c g r 0 ≡ starts_in c.latches.items g r

@@ -1,5 +1,5 @@
 -- From the solver's answers on the keep query to what they say of the set.
-use Rattle.std.proofs.Common.{◌≡◌, ℕ, zero, suc, ◌+◌, ◌<◌, ◌≤◌, Bool, true, false, List, [], ◌∷◌, ◌++◌, length, map, Some, slice_get, get_or, refl, ap, sym, ◌∙◌, subst, inl, inr, arith, true≢false, ◌==◌, ◌^◌}
+use Rattle.std.proofs.Common.{◌≡◌, ℕ, zero, suc, ◌+◌, ◌<◌, ◌≤◌, Bool, true, false, List, [], ◌∷◌, ◌++◌, length, Some, slice_get, get_or, refl, ap, sym, ◌∙◌, subst, inl, inr, arith, true≢false, ◌==◌, ◌^◌}
 use Rattle.std.specs.List.{filter}
 use Rattle.std.proofs.lemmas.Bool.{or_left, or_right}
 use Rattle.std.proofs.lemmas.List.Folds.{list_any-append}
@@ -11,17 +11,13 @@ use Rattle.lemma_checker.specs.Chains.{has_empty, ReachesEmpty}
 use Rattle.lemma_checker.proofs.Semantics.{none_solves}
 use Rattle.lemma_checker.proofs.ListLemmas.{get_push}
 use Rattle.clause_solver.specs.Solver.{IsSpent}
-use Rattle.gate_graph.specs.declared.parts.Latch.{Latch}
 use Rattle.gate_graph.specs.declared.circuits.Circuit.{Circuit}
-use Rattle.gate_graph.specs.Gates.{wire_value}
-use Rattle.gate_graph.specs.Values.{value, IsValuation}
 use Rattle.gate_graph.specs.Runs.{next_state}
 use Rattle.unroll_cnf.specs.declared.latch_literal.LatchLiteral.{LatchLiteral}
 use Rattle.unroll_cnf.specs.Latches.{meets, MeetsAll, IsOfLatches, AreOfLatches, weight}
 use Rattle.unroll_cnf.specs.Runs.{IsKeepEdge}
 use Rattle.unroll_cnf.specs.Queries.{run_clauses, keep_clauses}
 use Rattle.unroll_cnf.specs.Meaning.{IsStoodFor}
-use Rattle.unroll_cnf.proofs.FrameLemmas.{wire_agrees, next_of}
 use Rattle.unroll_cnf.proofs.QueryLemmas.{keep_run}
 use Rattle.unroll_cnf.proofs.SetLemmas.{IsUnmet, unmet_of}
 use Rattle.invariant_miner.specs.Kept.{IsClosed}

@@ -1,5 +1,5 @@
 -- What thinning a list of clauses gives.
-use Rattle.std.specs.Prelude.{◌≡◌, ℕ, ◌+◌, ◌^◌, ◌≤◌, Bool, List, length, map}
+use Rattle.std.specs.Prelude.{◌≡◌, ℕ, ◌+◌, ◌≤◌, Bool, List, length, map}
 use Rattle.lemma_checker.specs.declared.lemmas.Lemmas.{Lemmas}
 use Rattle.lemma_checker.specs.Chains.{ReachesEmpty}
 use Rattle.lemma_checker.specs.Checker.{link}

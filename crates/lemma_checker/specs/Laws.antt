@@ -1,5 +1,5 @@
 -- Laws of clauses, chains, propagation and new clauses, which the solver and the checker of certificates cite.
-use Rattle.std.specs.Prelude.{◌≡◌, ℕ, ◌+◌, ◌*◌, Bool, true, false, List, ◌++◌, map, Some, slice_get}
+use Rattle.std.specs.Prelude.{◌≡◌, ℕ, ◌+◌, ◌*◌, Bool, true, false, List, map, Some, slice_get}
 use Rattle.lemma_checker.specs.declared.literal.Literal.{Literal}
 use Rattle.lemma_checker.specs.Clauses.{has, set_of, Follows, HasNoSolution}
 use Rattle.lemma_checker.specs.Chains.{clashes, resolved, chain_result, has_empty, AreDerived, ReachesEmpty}

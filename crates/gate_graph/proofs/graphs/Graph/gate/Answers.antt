@@ -1,4 +1,4 @@
-use Rattle.std.proofs.Common.{◌≡◌, ◌∙◌, ◌+◌, ◌<◌, sym, arith, length, Some, None}
+use Rattle.std.proofs.Common.{◌≡◌, ◌∙◌, sym, arith, Some, None}
 use Rattle.std.specs.HashMap.{get}
 use Rattle.gate_graph.specs.Held.{pair_eq}
 use Rattle.gate_graph.specs.Sharing.{gate_from}
