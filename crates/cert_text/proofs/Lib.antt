@@ -1,0 +1,4 @@
+pub mod CheckLemmas
+pub mod CutLemmas
+pub mod ReadLemmas
+pub mod WordLemmas
