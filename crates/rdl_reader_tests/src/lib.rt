@@ -1,6 +1,8 @@
-//! Tests of the readers of descriptions: from the bytes of a text to its tokens and its tree.
+//! Tests of the readers of descriptions: from the bytes of a text to its tokens, its tree and its first fault.
 #![tactic(auto)]
 
+#[cfg(test)]
+mod faults;
 #[cfg(test)]
 mod tokens;
 #[cfg(test)]

@@ -1,0 +1,12 @@
+pub mod Lists
+pub mod Chains
+pub mod Components
+pub mod Types
+pub mod Instances
+pub mod Properties
+pub mod References
+pub mod Names
+pub mod Assignments
+pub mod Forms
+pub mod Refusals
+pub mod Inside

@@ -1,0 +1,12 @@
+//! What the text of a description says and refuses by itself: names, where they stand and what they mean, which
+//! properties are assigned, and the form of their values.
+#![tactic(auto)]
+
+mod assignment;
+mod form;
+pub mod instance;
+mod names;
+pub mod property;
+pub mod reference;
+pub mod scope;
+pub mod text;
