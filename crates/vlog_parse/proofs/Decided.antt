@@ -13,16 +13,17 @@ use Rattle.vlog_tree.specs.Modules.{IsReading}
 use Rattle.vlog_tree.proofs.Theorem.{one_reading}
 use Rattle.vlog_parse.specs.LeftOut.{is_left_out, HasLeftOut, HasNoneLeftOut, IsFirstLeftOut}
 use Rattle.vlog_parse.specs.Depth.{IsWithin, IsOver, IsDeep, IsShallow, IsFirstDeep}
-use Rattle.vlog_parse.specs.Refusal.{Answers, HasNoReading, IsRefusedWith, IsReadAs}
+use Rattle.vlog_parse.specs.Refusal.{Answers, HasNoReading, IsTooDeepAt, IsNested, IsFlat, IsRefusedWith, IsReadAs}
+use Rattle.vlog_parse.specs.Cut.{Tells}
 
-has_and_none : (ts : Tokens) → HasLeftOut ts → HasNoneLeftOut ts → ⊥
+pub has_and_none : (ts : Tokens) → HasLeftOut ts → HasNoneLeftOut ts → ⊥
 has_and_none ts h n = let e : true ≡ false = sym h ∙ n in cc
 
-first_is_left_out : (ts : Tokens) (place : Place) → IsFirstLeftOut ts place → HasLeftOut ts
+pub first_is_left_out : (ts : Tokens) (place : Place) → IsFirstLeftOut ts place → HasLeftOut ts
 first_is_left_out ts place first =
     ap (list_any is_left_out) first.split ∙ list_any-append is_left_out first.front (first.token ∷ first.more) ∙ rw (first.none, first.left_out) refl
 
-over_not_within : (front : Tokens) → IsOver front → IsWithin front → ⊥
+pub over_not_within : (front : Tokens) → IsOver front → IsWithin front → ⊥
 over_not_within front (inl over) within = let h = within.open_is in omega arith
 over_not_within front (inr (inl over)) within = let h = within.unended_is in omega arith
 over_not_within front (inr (inr over)) within = let h = within.elses_are in omega arith
@@ -42,25 +43,47 @@ when_left_out tokens (Err (At VlogSyntax place names path)) h left_out = absurd 
 when_left_out tokens (Err (At _ place names path)) h left_out = absurd h
 
 pub when_deep : (tokens : VTokens) (r : Result VlogFile VlogFault) → Answers tokens r → HasNoneLeftOut tokens.list → IsDeep tokens.list → IsRefusedWith VlogDeep r
-when_deep tokens (Ok file) h none deep = deep_not_shallow tokens.list deep h.1.1
+when_deep tokens (Ok file) h none deep = deep_not_shallow tokens.list deep h.1.1.0
 when_deep tokens (Err NoMemory) h none deep = tt
 when_deep tokens (Err (At VlogLeftOut place names path)) h none deep = absurd (has_and_none tokens.list (first_is_left_out tokens.list place h.0) none)
 when_deep tokens (Err (At VlogDeep place names path)) h none deep = refl
-when_deep tokens (Err (At VlogSyntax place names path)) h none deep = absurd (deep_not_shallow tokens.list deep h.0.1.0)
+when_deep tokens (Err (At VlogSyntax place names path)) h none deep = absurd (deep_not_shallow tokens.list deep h.0.1.0.0)
 when_deep tokens (Err (At _ place names path)) h none deep = absurd h
 
-pub when_unread : (tokens : VTokens) (r : Result VlogFile VlogFault) → Answers tokens r → HasNoneLeftOut tokens.list → IsShallow tokens.list → HasNoReading tokens.list → IsRefusedWith VlogSyntax r
-when_unread tokens (Ok file) h none shallow unread = unread file h.0
-when_unread tokens (Err NoMemory) h none shallow unread = tt
-when_unread tokens (Err (At VlogLeftOut place names path)) h none shallow unread = absurd (has_and_none tokens.list (first_is_left_out tokens.list place h.0) none)
-when_unread tokens (Err (At VlogDeep place names path)) h none shallow unread = absurd (deep_not_shallow tokens.list (first_is_deep tokens.list place h.0.1) shallow)
-when_unread tokens (Err (At VlogSyntax place names path)) h none shallow unread = refl
-when_unread tokens (Err (At _ place names path)) h none shallow unread = absurd h
+pub when_nested : (tokens : VTokens) (r : Result VlogFile VlogFault) → Answers tokens r → HasNoneLeftOut tokens.list → IsShallow tokens.list → IsNested tokens.list → IsRefusedWith VlogDeep r
+when_nested tokens (Ok file) h none shallow nested = h.1.1.1 nested
+when_nested tokens (Err NoMemory) h none shallow nested = tt
+when_nested tokens (Err (At VlogLeftOut place names path)) h none shallow nested = absurd (has_and_none tokens.list (first_is_left_out tokens.list place h.0) none)
+when_nested tokens (Err (At VlogDeep place names path)) h none shallow nested = refl
+when_nested tokens (Err (At VlogSyntax place names path)) h none shallow nested = absurd (h.0.1.0.1 nested)
+when_nested tokens (Err (At _ place names path)) h none shallow nested = absurd h
 
-pub when_read : (tokens : VTokens) (r : Result VlogFile VlogFault) → Answers tokens r → (file : VlogFile) → IsReading tokens.list file → HasNoneLeftOut tokens.list → IsShallow tokens.list → IsReadAs file r
-when_read tokens (Ok other) h file reading none shallow = one_reading other file h.0.fitting reading.fitting (h.0.same_tokens ∙ sym reading.same_tokens)
-when_read tokens (Err NoMemory) h file reading none shallow = tt
-when_read tokens (Err (At VlogLeftOut place names path)) h file reading none shallow = absurd (has_and_none tokens.list (first_is_left_out tokens.list place h.0) none)
-when_read tokens (Err (At VlogDeep place names path)) h file reading none shallow = absurd (deep_not_shallow tokens.list (first_is_deep tokens.list place h.0.1) shallow)
-when_read tokens (Err (At VlogSyntax place names path)) h file reading none shallow = absurd (h.0.1.1.0 file reading)
-when_read tokens (Err (At _ place names path)) h file reading none shallow = absurd h
+pub too_deep_not_flat : (ts : Tokens) (place : Place) → IsTooDeepAt ts place → IsShallow ts → IsFlat ts → ⊥
+too_deep_not_flat ts place (inl deep) shallow flat = deep_not_shallow ts (first_is_deep ts place deep) shallow
+too_deep_not_flat ts place (inr nested) shallow flat = flat (place, nested.1)
+
+pub when_unread : (tokens : VTokens) (r : Result VlogFile VlogFault) → Answers tokens r → HasNoneLeftOut tokens.list → IsShallow tokens.list → IsFlat tokens.list → HasNoReading tokens.list
+    → IsRefusedWith VlogSyntax r
+when_unread tokens (Ok file) h none shallow flat unread = unread file h.0
+when_unread tokens (Err NoMemory) h none shallow flat unread = tt
+when_unread tokens (Err (At VlogLeftOut place names path)) h none shallow flat unread = absurd (has_and_none tokens.list (first_is_left_out tokens.list place h.0) none)
+when_unread tokens (Err (At VlogDeep place names path)) h none shallow flat unread = absurd (too_deep_not_flat tokens.list place h.0.1 shallow flat)
+when_unread tokens (Err (At VlogSyntax place names path)) h none shallow flat unread = refl
+when_unread tokens (Err (At _ place names path)) h none shallow flat unread = absurd h
+
+pub when_read : (tokens : VTokens) (r : Result VlogFile VlogFault) → Answers tokens r → (file : VlogFile) → IsReading tokens.list file → HasNoneLeftOut tokens.list → IsShallow tokens.list
+    → IsFlat tokens.list → IsReadAs file r
+when_read tokens (Ok other) h file reading none shallow flat = one_reading other file h.0.fitting reading.fitting (h.0.same_tokens ∙ sym reading.same_tokens)
+when_read tokens (Err NoMemory) h file reading none shallow flat = tt
+when_read tokens (Err (At VlogLeftOut place names path)) h file reading none shallow flat = absurd (has_and_none tokens.list (first_is_left_out tokens.list place h.0) none)
+when_read tokens (Err (At VlogDeep place names path)) h file reading none shallow flat = absurd (too_deep_not_flat tokens.list place h.0.1 shallow flat)
+when_read tokens (Err (At VlogSyntax place names path)) h file reading none shallow flat = absurd (h.0.1.1.0 file reading)
+when_read tokens (Err (At _ place names path)) h file reading none shallow flat = absurd h
+
+-- why the rows stop, where nothing is left out and not too much is open or runs on
+pub told : (tokens : VTokens) (r : Result VlogFile VlogFault) → HasNoneLeftOut tokens.list → IsShallow tokens.list → Tells tokens r → Answers tokens r
+told tokens (Ok file) none shallow h = (h.0, (none, (shallow, h.1)))
+told tokens (Err NoMemory) none shallow h = tt
+told tokens (Err (At VlogDeep place names path)) none shallow h = ((none, inr (shallow, h.0)), h.1)
+told tokens (Err (At VlogSyntax place names path)) none shallow h = ((none, ((shallow, h.0.0), h.0.1)), h.1)
+told tokens (Err (At _ place names path)) none shallow h = absurd h

@@ -1,6 +1,7 @@
 pub mod Fronts
 pub mod Deep
 pub mod Rooms
+pub mod Nesting
 pub mod Chains
 pub mod Ends
 pub mod Theorem
@@ -9,3 +10,5 @@ pub mod Instances
 pub mod Tops
 pub mod Decided
 pub mod Begins
+pub mod Cut
+pub mod OneAnswer

@@ -21,6 +21,9 @@ continues : (front : Tokens) → Begins (flat_list flat_module) (Holds (list_all
 unfolding Begins
 continues front (xs, (fit, begun)) = (record { modules = xs }, (fit, begun))
 
+pub continues_front : (front more : Tokens) → Continues (front ++ more) → Continues front
+continues_front front more (f, (fits, (ys, e))) = (f, (fits, (more ++ ys, e ∙ append_assoc front more ys)))
+
 -- ---- what comes after the tokens that were taken
 
 NoMore : Tokens → Tokens → Type 0
@@ -146,6 +149,45 @@ fault_at tokens front (t ∷ more) e before none = inl (record { front = front; 
 pub first_fault : (tokens : VTokens) (rest : Tokens) → source (length tokens.list + 1) tokens.list ≡ Err (Refused rest) → IsFirstFault tokens (place_of rest tokens.end)
 unfolding IsStuck
 first_fault tokens rest e = let s = stuck_of tokens rest e in fault_at tokens s.0 rest s.1.0 s.1.1.0 s.1.1.1
+
+-- ---- of a front of the tokens
+
+abbrev ended : Tokens → VTokens
+ended ts = record { list = ts; end = record { file = 0; line = 0; column = 0 } }
+
+pub cut_read : (cut : Tokens) (xs : List VModule) (rest : Tokens) → source (length cut + 1) cut ≡ Ok (xs, rest) → Continues cut
+cut_read cut xs rest e = let r = reading_of (ended cut) xs rest e in (record { modules = xs }, (r.fitting, ([], r.same_tokens ∙ sym (append-nil cut))))
+
+pub cut_never : (cut : Tokens) → source (length cut + 1) cut ≡ Err Sunk → ⊥
+cut_never cut e = never_sunk (ended cut) e
+
+pub cut_ends : (cut rest : Tokens) → length rest ≡ 0 → source (length cut + 1) cut ≡ Err (Refused rest) → Continues cut
+unfolding IsStuck
+cut_ends cut [] none e = let s = stuck_of (ended cut) [] e in subst Continues (sym (append-nil s.0) ∙ sym s.1.0) s.1.1.0
+cut_ends cut (t ∷ more) none e = absurd (omega arith)
+
+IsStuckAt : Tokens → VToken → Tokens → Type 0
+IsStuckAt cut t more = (front : Tokens) × ((cut ≡ front ++ t ∷ more) × (Continues front × (Continues (front ++ t ∷ []) → ⊥)))
+
+cut_stuck : (cut : Tokens) (t : VToken) (more : Tokens) → source (length cut + 1) cut ≡ Err (Refused (t ∷ more)) → IsStuckAt cut t more
+unfolding IsStuck NoMore IsStuckAt
+cut_stuck cut t more e = stuck_of (ended cut) (t ∷ more) e
+
+-- the first impossible token of a front is that of all the tokens
+pub cut_fault : (tokens : VTokens) (cut after rest : Tokens) → tokens.list ≡ cut ++ after → source (length cut + 1) cut ≡ Err (Refused rest) → 0 < length rest
+    → (Continues cut → ⊥) × (HasNoReading tokens.list × IsFirstFault tokens (place_of rest tokens.end))
+unfolding IsStuckAt
+cut_fault tokens cut after [] whole e some = absurd (omega arith)
+cut_fault tokens cut after (t ∷ more) whole e some =
+    let s = cut_stuck cut t more e in
+    let split : tokens.list ≡ s.0 ++ t ∷ (more ++ after) = whole ∙ ap (λ ts. ts ++ after) s.1.0 ∙ append_assoc s.0 (t ∷ more) after in
+    let none : Continues (s.0 ++ t ∷ []) → ⊥ = s.1.1.1 in (
+      (λ c. none (continues_front (s.0 ++ t ∷ []) more (subst Continues (s.1.0 ∙ sym (append_assoc s.0 (t ∷ []) more)) c))),
+      (
+        (λ f reading. none (f, (reading.fitting, (more ++ after, reading.same_tokens ∙ split ∙ sym (append_assoc s.0 (t ∷ []) (more ++ after)))))),
+        inl (record { front = s.0; token = t; more = more ++ after; split = split; here = refl; before = s.1.1.0; none = none }),
+      ),
+    )
 
 -- what the code reads is the list of the tokens, with room for each and one more
 pub at_list : (tokens : VTokens) (list cursor : Tokens) (o : Outcome VToken (List VModule)) → list ≡ tokens.list → cursor ≡ list → source (length list + 1) cursor ≡ o → source (length tokens.list + 1) tokens.list ≡ o

@@ -1,5 +1,5 @@
 -- Which names were met. No public contract cites it.
-use Rattle.std.specs.Prelude.{◌≡◌, ℕ, List, Bool, ◌||◌, bytes_eq}
+use Rattle.std.specs.Prelude.{◌≡◌, Bool, ◌||◌, bytes_eq}
 use Rattle.std.specs.HashSet.{contains_by}
 use Rattle.vlog_parse.specs.Top.{Name, Names, is_among}
 use Rattle.vlog_parse.specs.declared.top.Met.{Met}

@@ -1,5 +1,6 @@
 -- Which texts have no reading, and where that shows first.
-use Rattle.std.specs.Prelude.{◌≡◌, ◌⊎◌, true, List, [], ◌∷◌, ◌++◌, Result, Ok, Err}
+use Rattle.std.specs.Prelude.{◌≡◌, ◌≢◌, ◌⊎◌, ◌+◌, true, List, [], ◌∷◌, ◌++◌, length, Result, Ok, Err}
+use Rattle.parsing.specs.Parser.{Refused}
 use Rattle.bit_base.specs.declared.place.Place.{Place}
 use Rattle.vlog_tree.specs.declared.fault.VlogCode.{VlogCode}
 use Rattle.vlog_tree.specs.declared.fault.VlogCode.TheVariants.{VlogSyntax, VlogDeep, VlogLeftOut}
@@ -12,6 +13,7 @@ use Rattle.vlog_tree.specs.Terminals.{Tokens}
 use Rattle.vlog_tree.specs.Modules.{flat, fits, IsReading}
 use Rattle.vlog_parse.specs.LeftOut.{HasNoneLeftOut, IsFirstLeftOut}
 use Rattle.vlog_parse.specs.Depth.{IsShallow, IsFirstDeep}
+use Rattle.vlog_parse.specs.Nesting.{most_levels, source_in}
 
 -- where the next token stands, or the end
 abbrev pub place_of : List VToken → Place → Place
@@ -43,6 +45,30 @@ pub record IsCutShort (tokens : VTokens) (place : Place) : Type 0 where
 abbrev pub IsFirstFault : VTokens → Place → Type 0
 IsFirstFault tokens place = IsFirstImpossible tokens place ⊎ IsCutShort tokens place
 
+-- The first token with which too many items, or too many items and statements, stand in one another, stands here: the tokens up to and including it begin those of some fitting tree, and
+-- the rows that bear only so many stop there, with it and those behind it left.
+pub record IsFirstNested (ts : Tokens) (place : Place) : Type 0 where
+  pub front : Tokens
+  pub token : VToken
+  pub more : Tokens
+  pub split : ts ≡ front ++ token ∷ more
+  pub here : place ≡ token.place
+  pub goes_on : Continues (front ++ token ∷ [])
+  pub rest : Tokens
+  pub stops : source_in (length ts + 1) most_levels ts ≡ Err (Refused rest)
+  pub left : length rest ≡ length (token ∷ more)
+
+-- At some token too many stand in one another, and no token before it is impossible.
+abbrev pub IsNested : Tokens → Type 0
+IsNested ts = (place : Place) × IsFirstNested ts place
+
+abbrev pub IsFlat : Tokens → Type 0
+IsFlat ts = IsNested ts → ⊥
+
+-- Too much is open or runs on at this token, or else too much stands in one another.
+abbrev pub IsTooDeepAt : Tokens → Place → Type 0
+IsTooDeepAt ts place = IsFirstDeep ts place ⊎ (IsShallow ts × IsFirstNested ts place)
+
 -- Where the fault is this code at a place, this holds of the place.
 abbrev pub OnCode : VlogCode → (Place → Type 0) → VlogFault → Type 0
 OnCode code P fault = (place : Place) → fault ≡ At code place [] [] → P place
@@ -56,9 +82,9 @@ IsOfReader fault =
 abbrev pub Refuses : VTokens → VlogFault → Type 0
 Refuses tokens NoMemory = Unit {0}
 Refuses tokens (At VlogLeftOut place names path) = IsFirstLeftOut tokens.list place × ((names ≡ []) × (path ≡ []))
-Refuses tokens (At VlogDeep place names path) = (HasNoneLeftOut tokens.list × IsFirstDeep tokens.list place) × ((names ≡ []) × (path ≡ []))
+Refuses tokens (At VlogDeep place names path) = (HasNoneLeftOut tokens.list × IsTooDeepAt tokens.list place) × ((names ≡ []) × (path ≡ []))
 Refuses tokens (At VlogSyntax place names path) =
-    (HasNoneLeftOut tokens.list × (IsShallow tokens.list × (HasNoReading tokens.list × IsFirstFault tokens place))) × ((names ≡ []) × (path ≡ []))
+    (HasNoneLeftOut tokens.list × ((IsShallow tokens.list × IsFlat tokens.list) × (HasNoReading tokens.list × IsFirstFault tokens place))) × ((names ≡ []) × (path ≡ []))
 Refuses tokens (At _ place names path) = ⊥
 
 -- ---- the other way round: what the tokens are decides what is answered, but for want of memory
@@ -75,5 +101,10 @@ IsReadAs file (Err (At code place names path)) = ⊥
 
 -- What is answered, in all its cases.
 abbrev pub Answers : VTokens → Result VlogFile VlogFault → Type 0
-Answers tokens (Ok file) = IsReading tokens.list file × (HasNoneLeftOut tokens.list × IsShallow tokens.list)
+Answers tokens (Ok file) = IsReading tokens.list file × (HasNoneLeftOut tokens.list × (IsShallow tokens.list × IsFlat tokens.list))
 Answers tokens (Err fault) = Refuses tokens fault
+
+-- But for want of memory, the tokens determine the answer.
+abbrev pub OneAnswer : Type 0
+OneAnswer =
+    (tokens : VTokens) (a b : Result VlogFile VlogFault) → Answers tokens a → Answers tokens b → a ≢ Err NoMemory → b ≢ Err NoMemory → a ≡ b

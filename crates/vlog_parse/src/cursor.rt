@@ -13,20 +13,11 @@ use std::alloc::Global;
 use std::marker::Model;
 use vlog_tree::token::{VToken, VTokenKind};
 
-/// How many items may stand in one another: the 1,024 `else` that the limits of 204 allow, and 32 more.
-///
-/// Reading and releasing a tree take stack for each level. With this bound and `DEEPEST_STATEMENT`, and with what the
-/// limits of 204 leave to brackets and operators, the worst mix fits three quarters of the usual 8 MB.
-pub const DEEPEST_ITEM: usize = 1056;
-
-/// How many items and statements together may stand in one another.
-pub const DEEPEST_STATEMENT: usize = 2112;
-
 /// The tokens from the next one on.
 #[derive(Drop)]
 pub struct Cursor<'a> {
     rest: &'a [VToken],
-    /// The room of the whole text, from which levels are counted down.
+    /// The room that the text is read with.
     room: usize,
 }
 
@@ -45,12 +36,6 @@ impl<'a> Cursor<'a> {
         ensures { result ≡ tokens.now }
     {
         Cursor { rest: tokens, room }
-    }
-
-    /// What has so much room left stands in so many levels of the text, or more. No clause says so: either answer is
-    /// right, since want of memory may be answered anywhere.
-    pub fn is_below(&self, levels: usize, room: usize) -> bool {
-        self.room.saturating_sub(room) >= levels
     }
 
     /// How many tokens are left.

@@ -9,12 +9,14 @@ ghost use Rattle.vlog_tree.specs.declared.tree_modules.VGbody.TheVariants as the
 ghost use Rattle.vlog_tree.specs.declared.tree_modules.VMitem.TheVariants as the_item;
 ghost use Rattle.vlog_tree.specs.ReadExpressions.{mark, word};
 ghost use Rattle.vlog_tree.specs.ReadModules as spec;
+ghost use Rattle.vlog_parse.specs.Nesting as nesting;
 
-use crate::cursor::{Cursor, DEEPEST_ITEM};
+use crate::cursor::Cursor;
 use crate::declarations::{
     any_pdecs, any_port_list, constant, driver, for_head, instance, kind, net, next_constants,
     next_drivers, next_names, next_nets, port_head, sees_dir, sees_net_kind, shape,
 };
+use crate::levels::{STATEMENT_LEVELS, level_below};
 use crate::statements::{any_label, ends_open, event, if_head, label, stmt};
 use parsing::stop::Stop;
 use sqlite_items::{Boxed, Items};
@@ -98,26 +100,36 @@ fn assign_item(alloc: Global, tokens: &mut Cursor<'_>, room: usize) -> Result<Bo
 
 /// `"always" "@" event stmt`
 #[inline(never)]
-#[tactic(auto, unfolding(vlog_tree::specs::ReadModules::always_item))]
-fn always_item(alloc: Global, tokens: &mut Cursor<'_>, room: usize) -> Result<Boxed<VMitem>, Stop>
-    ensures { Reads (spec.always_item room tokens.old) result tokens.new }
+#[tactic(auto, unfolding(crate::specs::Nesting::always_in))]
+fn always_item(
+    alloc: Global,
+    tokens: &mut Cursor<'_>,
+    room: usize,
+    levels: usize,
+) -> Result<Boxed<VMitem>, Stop>
+    ensures { Reads (nesting.always_in (nesting.stmt_in room levels) tokens.old) result tokens.new }
 {
     let word = tokens.word(alloc, b"always")?;
     let at = tokens.mark(alloc, b"@")?;
     let event = Boxed::new(alloc, event(alloc, tokens)?)?;
-    let stmt = stmt(alloc, tokens, room)?;
+    let stmt = stmt(alloc, tokens, room, levels)?;
     let whole = VMitem::Always(word, at, event.into_inner(), stmt);
     Ok(Boxed::new(alloc, whole)?)
 }
 
 /// `"initial" stmt`
 #[inline(never)]
-#[tactic(auto, unfolding(vlog_tree::specs::ReadModules::initial_item))]
-fn initial_item(alloc: Global, tokens: &mut Cursor<'_>, room: usize) -> Result<Boxed<VMitem>, Stop>
-    ensures { Reads (spec.initial_item room tokens.old) result tokens.new }
+#[tactic(auto, unfolding(crate::specs::Nesting::initial_in))]
+fn initial_item(
+    alloc: Global,
+    tokens: &mut Cursor<'_>,
+    room: usize,
+    levels: usize,
+) -> Result<Boxed<VMitem>, Stop>
+    ensures { Reads (nesting.initial_in (nesting.stmt_in room levels) tokens.old) result tokens.new }
 {
     let word = tokens.word(alloc, b"initial")?;
-    let stmt = stmt(alloc, tokens, room)?;
+    let stmt = stmt(alloc, tokens, room, levels)?;
     Ok(Boxed::new(alloc, VMitem::Initial(word, stmt))?)
 }
 
@@ -185,15 +197,20 @@ fn body_ends_open(body: &VGbody) -> bool
 /// `{mitem}`
 #[cycle(mitem)]
 #[tactic(auto, using(parsing::proofs::Turns::many_start, parsing::proofs::Turns::many_ends, parsing::proofs::Turns::many_over, parsing::proofs::Turns::many_turns, parsing::proofs::Turns::many_fails), unfolding(vlog_tree::specs::ReadModules::mitems))]
-fn mitems(alloc: Global, tokens: &mut Cursor<'_>, inner: usize) -> Result<Items<VMitem>, Stop>
-    ensures { Reads (spec.mitems (spec.mitem inner) tokens.old) result tokens.new }
+fn mitems(
+    alloc: Global,
+    tokens: &mut Cursor<'_>,
+    inner: usize,
+    levels: usize,
+) -> Result<Items<VMitem>, Stop>
+    ensures { Reads (spec.mitems (nesting.mitem_in inner levels) tokens.old) result tokens.new }
 {
     let mut found = Items::new(alloc);
     for _turn in 0..tokens.len() {
         if !sees_mitem(tokens) {
             return Ok(found);
         }
-        found.push(mitem(alloc, tokens, inner)?.into_inner())?;
+        found.push(mitem(alloc, tokens, inner, levels)?.into_inner())?;
     }
     Ok(found)
 }
@@ -202,11 +219,16 @@ fn mitems(alloc: Global, tokens: &mut Cursor<'_>, inner: usize) -> Result<Items<
 #[cycle(mitem)]
 #[inline(never)]
 #[tactic(auto, unfolding(vlog_tree::specs::ReadModules::region))]
-fn region(alloc: Global, tokens: &mut Cursor<'_>, inner: usize) -> Result<Boxed<VMitem>, Stop>
-    ensures { Reads (spec.region (spec.mitem inner) tokens.old) result tokens.new }
+fn region(
+    alloc: Global,
+    tokens: &mut Cursor<'_>,
+    inner: usize,
+    levels: usize,
+) -> Result<Boxed<VMitem>, Stop>
+    ensures { Reads (spec.region (nesting.mitem_in inner levels) tokens.old) result tokens.new }
 {
     let word = tokens.word(alloc, b"generate")?;
-    let items = mitems(alloc, tokens, inner)?;
+    let items = mitems(alloc, tokens, inner, levels)?;
     let end = tokens.word(alloc, b"endgenerate")?;
     Ok(Boxed::new(alloc, VMitem::Generate(word, items, end))?)
 }
@@ -215,12 +237,17 @@ fn region(alloc: Global, tokens: &mut Cursor<'_>, inner: usize) -> Result<Boxed<
 #[cycle(mitem)]
 #[inline(never)]
 #[tactic(auto, unfolding(vlog_tree::specs::ReadModules::body_block))]
-fn body_block(alloc: Global, tokens: &mut Cursor<'_>, inner: usize) -> Result<Boxed<VGbody>, Stop>
-    ensures { Reads (spec.body_block (spec.mitem inner) tokens.old) result tokens.new }
+fn body_block(
+    alloc: Global,
+    tokens: &mut Cursor<'_>,
+    inner: usize,
+    levels: usize,
+) -> Result<Boxed<VGbody>, Stop>
+    ensures { Reads (spec.body_block (nesting.mitem_in inner levels) tokens.old) result tokens.new }
 {
     let word = tokens.word(alloc, b"begin")?;
     let label = any_label(alloc, tokens)?;
-    let items = mitems(alloc, tokens, inner)?;
+    let items = mitems(alloc, tokens, inner, levels)?;
     let end = tokens.word(alloc, b"end")?;
     Ok(Boxed::new(alloc, VGbody::Block(word, label, items, end))?)
 }
@@ -229,12 +256,17 @@ fn body_block(alloc: Global, tokens: &mut Cursor<'_>, inner: usize) -> Result<Bo
 #[cycle(mitem)]
 #[inline(never)]
 #[tactic(auto, unfolding(vlog_tree::specs::ReadModules::named_block))]
-fn named_block(alloc: Global, tokens: &mut Cursor<'_>, inner: usize) -> Result<Boxed<VGbody>, Stop>
-    ensures { Reads (spec.named_block (spec.mitem inner) tokens.old) result tokens.new }
+fn named_block(
+    alloc: Global,
+    tokens: &mut Cursor<'_>,
+    inner: usize,
+    levels: usize,
+) -> Result<Boxed<VGbody>, Stop>
+    ensures { Reads (spec.named_block (nesting.mitem_in inner levels) tokens.old) result tokens.new }
 {
     let word = tokens.word(alloc, b"begin")?;
     let label = label(alloc, tokens)?;
-    let items = mitems(alloc, tokens, inner)?;
+    let items = mitems(alloc, tokens, inner, levels)?;
     let end = tokens.word(alloc, b"end")?;
     let whole = VGbody::Block(word, Some(label), items, end);
     Ok(Boxed::new(alloc, whole)?)
@@ -249,11 +281,12 @@ fn for_item(
     tokens: &mut Cursor<'_>,
     room: usize,
     inner: usize,
+    levels: usize,
 ) -> Result<Boxed<VMitem>, Stop>
-    ensures { Reads (spec.for_item room (spec.mitem inner) tokens.old) result tokens.new }
+    ensures { Reads (spec.for_item room (nesting.mitem_in inner levels) tokens.old) result tokens.new }
 {
     let head = Boxed::new(alloc, for_head(alloc, tokens, room)?)?;
-    let body = named_block(alloc, tokens, inner)?;
+    let body = named_block(alloc, tokens, inner, levels)?;
     Ok(Boxed::new(alloc, VMitem::For(head.into_inner(), body))?)
 }
 
@@ -284,24 +317,34 @@ fn body_of(alloc: Global, item: Boxed<VMitem>) -> Result<Boxed<VGbody>, Stop>
 /// `mitem | "begin" [":" NAME] {mitem} "end"`
 #[cycle(mitem)]
 #[tactic(auto, unfolding(vlog_tree::specs::ReadModules::gbody))]
-fn gbody(alloc: Global, tokens: &mut Cursor<'_>, inner: usize) -> Result<Boxed<VGbody>, Stop>
-    ensures { Reads (spec.gbody (spec.mitem inner) tokens.old) result tokens.new }
+fn gbody(
+    alloc: Global,
+    tokens: &mut Cursor<'_>,
+    inner: usize,
+    levels: usize,
+) -> Result<Boxed<VGbody>, Stop>
+    ensures { Reads (spec.gbody (nesting.mitem_in inner levels) tokens.old) result tokens.new }
 {
     if tokens.sees_word(b"begin") {
-        return body_block(alloc, tokens, inner);
+        return body_block(alloc, tokens, inner, levels);
     }
-    let item = mitem(alloc, tokens, inner)?;
+    let item = mitem(alloc, tokens, inner, levels)?;
     body_of(alloc, item)
 }
 
 /// `"else" gbody`
 #[cycle(mitem)]
 #[tactic(auto, unfolding(vlog_tree::specs::ReadModules::gelse))]
-fn gelse(alloc: Global, tokens: &mut Cursor<'_>, inner: usize) -> Result<VGelse, Stop>
-    ensures { Reads (spec.gelse (spec.mitem inner) tokens.old) result tokens.new }
+fn gelse(
+    alloc: Global,
+    tokens: &mut Cursor<'_>,
+    inner: usize,
+    levels: usize,
+) -> Result<VGelse, Stop>
+    ensures { Reads (spec.gelse (nesting.mitem_in inner levels) tokens.old) result tokens.new }
 {
     let word = tokens.word(alloc, b"else")?;
-    let body = gbody(alloc, tokens, inner)?;
+    let body = gbody(alloc, tokens, inner, levels)?;
     Ok(VGelse { word, body })
 }
 
@@ -312,14 +355,15 @@ fn any_gelse(
     alloc: Global,
     tokens: &mut Cursor<'_>,
     inner: usize,
+    levels: usize,
     branch: &VGbody,
 ) -> Result<Option<VGelse>, Stop>
-    ensures { Reads (spec.any_gelse (spec.mitem inner) branch.now tokens.old) result tokens.new }
+    ensures { Reads (spec.any_gelse (nesting.mitem_in inner levels) branch.now tokens.old) result tokens.new }
 {
     if body_ends_open(branch) || !tokens.sees_word(b"else") {
         return Ok(None);
     }
-    Ok(Some(gelse(alloc, tokens, inner)?))
+    Ok(Some(gelse(alloc, tokens, inner, levels)?))
 }
 
 /// `"if" "(" expr ")" gbody ["else" gbody]`
@@ -330,25 +374,27 @@ fn gconditional(
     tokens: &mut Cursor<'_>,
     room: usize,
     inner: usize,
+    levels: usize,
 ) -> Result<Boxed<VMitem>, Stop>
-    ensures { Reads (spec.gconditional room (spec.mitem inner) tokens.old) result tokens.new }
+    ensures { Reads (spec.gconditional room (nesting.mitem_in inner levels) tokens.old) result tokens.new }
 {
     let head = if_head(alloc, tokens, room)?;
-    let branch = gbody(alloc, tokens, inner)?;
-    let other = any_gelse(alloc, tokens, inner, branch.get())?;
+    let branch = gbody(alloc, tokens, inner, levels)?;
+    let other = any_gelse(alloc, tokens, inner, levels, branch.get())?;
     conditional_of(alloc, head, branch, other)
 }
 
 /// An item with so much room for its expressions and statements and for the items in it.
 #[cycle(mitem)]
-#[tactic(auto, unfolding(vlog_tree::specs::ReadModules::mitem_of))]
+#[tactic(auto, unfolding(crate::specs::Nesting::mitem_with))]
 fn mitem_of(
     alloc: Global,
     tokens: &mut Cursor<'_>,
     room: usize,
     inner: usize,
+    levels: usize,
 ) -> Result<Boxed<VMitem>, Stop>
-    ensures { Reads (spec.mitem_of room (spec.mitem inner) tokens.old) result tokens.new }
+    ensures { Reads (nesting.mitem_with room (nesting.stmt_in room levels) (nesting.mitem_in inner levels) tokens.old) result tokens.new }
 {
     if sees_dir(tokens) {
         return port_item(alloc, tokens, room);
@@ -366,61 +412,76 @@ fn mitem_of(
         return assign_item(alloc, tokens, room);
     }
     if tokens.sees_word(b"always") {
-        return always_item(alloc, tokens, room);
+        return always_item(alloc, tokens, room, levels);
     }
     if tokens.sees_word(b"initial") {
-        return initial_item(alloc, tokens, room);
+        return initial_item(alloc, tokens, room, levels);
     }
     if tokens.sees_word(b"generate") {
-        return region(alloc, tokens, inner);
+        return region(alloc, tokens, inner, levels);
     }
     if tokens.sees_word(b"for") {
-        return for_item(alloc, tokens, room, inner);
+        return for_item(alloc, tokens, room, inner, levels);
     }
     if tokens.sees_word(b"if") {
-        return gconditional(alloc, tokens, room, inner);
+        return gconditional(alloc, tokens, room, inner, levels);
     }
     instance_item(alloc, tokens, room)
 }
 
-/// An item that nests down to so many levels, in a box.
+/// An item where it and the items and statements in it may stand in one another so many levels deep, in a box.
 #[cycle(mitem)]
-#[tactic(auto, using(crate::proofs::Rooms::mitem_none, crate::proofs::Rooms::mitem_down))]
-fn mitem(alloc: Global, tokens: &mut Cursor<'_>, room: usize) -> Result<Boxed<VMitem>, Stop>
-    ensures { Reads (spec.mitem room tokens.old) result tokens.new }
+#[tactic(auto, using(crate::proofs::Rooms::mitem_none))]
+fn mitem(
+    alloc: Global,
+    tokens: &mut Cursor<'_>,
+    room: usize,
+    levels: usize,
+) -> Result<Boxed<VMitem>, Stop>
+    ensures { Reads (nesting.mitem_in room levels tokens.old) result tokens.new }
 {
     if room == 0 {
         return Err(Stop::Sunk);
     }
-    if tokens.is_below(DEEPEST_ITEM, room) {
-        return Err(Stop::Memory);
+    match level_below(levels, STATEMENT_LEVELS) {
+        Ok(inner) => mitem_of(alloc, tokens, room, room - 1, inner),
+        Err(stop) => Err(stop),
     }
-    mitem_of(alloc, tokens, room, room - 1)
 }
 
 /// What stands behind the ports of a module.
 type ModuleEnd = (VToken, (Items<VMitem>, VToken));
 
 /// `";" {mitem} "endmodule"`
-fn module_end(alloc: Global, tokens: &mut Cursor<'_>, room: usize) -> Result<ModuleEnd, Stop>
-    ensures { Reads (seq (mark (codes ";")) (λ _. seq (spec.mitems (spec.mitem room)) (λ _. word (codes "endmodule"))) tokens.old) result tokens.new }
+fn module_end(
+    alloc: Global,
+    tokens: &mut Cursor<'_>,
+    room: usize,
+    levels: usize,
+) -> Result<ModuleEnd, Stop>
+    ensures { Reads (seq (mark (codes ";")) (λ _. seq (spec.mitems (nesting.mitem_in room levels)) (λ _. word (codes "endmodule"))) tokens.old) result tokens.new }
 {
     let semi = tokens.mark(alloc, b";")?;
-    let items = mitems(alloc, tokens, room)?;
+    let items = mitems(alloc, tokens, room, levels)?;
     let end = tokens.word(alloc, b"endmodule")?;
     Ok((semi, (items, end)))
 }
 
 /// `"module" NAME ["#" "(" pdec {"," pdec} ")"] ["(" [ports] ")"] ";" {mitem} "endmodule"`
-#[tactic(auto, unfolding(vlog_tree::specs::ReadModules::module_))]
-fn module(alloc: Global, tokens: &mut Cursor<'_>, room: usize) -> Result<VModule, Stop>
-    ensures { Reads (spec.module_ room tokens.old) result tokens.new }
+#[tactic(auto, unfolding(crate::specs::Nesting::module_in))]
+fn module(
+    alloc: Global,
+    tokens: &mut Cursor<'_>,
+    room: usize,
+    levels: usize,
+) -> Result<VModule, Stop>
+    ensures { Reads (nesting.module_in room levels tokens.old) result tokens.new }
 {
     let word = tokens.word(alloc, b"module")?;
     let name = tokens.name(alloc)?;
     let parameters = Boxed::new(alloc, any_pdecs(alloc, tokens, room)?)?;
     let ports = Boxed::new(alloc, any_port_list(alloc, tokens, room)?)?;
-    let (semi, (items, end)) = module_end(alloc, tokens, room)?;
+    let (semi, (items, end)) = module_end(alloc, tokens, room, levels)?;
     let (parameters, ports) = (parameters.into_inner(), ports.into_inner());
     Ok(VModule {
         word,
@@ -434,26 +495,36 @@ fn module(alloc: Global, tokens: &mut Cursor<'_>, room: usize) -> Result<VModule
 }
 
 /// `{module}`
-#[tactic(auto, using(parsing::proofs::Turns::many_start, parsing::proofs::Turns::many_ends, parsing::proofs::Turns::many_over, parsing::proofs::Turns::many_turns, parsing::proofs::Turns::many_fails), unfolding(vlog_tree::specs::ReadModules::modules))]
-fn modules(alloc: Global, tokens: &mut Cursor<'_>, room: usize) -> Result<Items<VModule>, Stop>
-    ensures { Reads (spec.modules room tokens.old) result tokens.new }
+#[tactic(auto, using(parsing::proofs::Turns::many_start, parsing::proofs::Turns::many_ends, parsing::proofs::Turns::many_over, parsing::proofs::Turns::many_turns, parsing::proofs::Turns::many_fails), unfolding(crate::specs::Nesting::modules_in))]
+fn modules(
+    alloc: Global,
+    tokens: &mut Cursor<'_>,
+    room: usize,
+    levels: usize,
+) -> Result<Items<VModule>, Stop>
+    ensures { Reads (nesting.modules_in room levels tokens.old) result tokens.new }
 {
     let mut found = Items::new(alloc);
     for _turn in 0..tokens.len() {
         if !tokens.sees_word(b"module") {
             return Ok(found);
         }
-        found.push(module(alloc, tokens, room)?)?;
+        found.push(module(alloc, tokens, room, levels)?)?;
     }
     Ok(found)
 }
 
 /// `{module}` and the end, down to so many levels.
-#[tactic(auto, unfolding(vlog_tree::specs::ReadModules::source))]
-pub fn source(alloc: Global, tokens: &mut Cursor<'_>, room: usize) -> Result<Items<VModule>, Stop>
-    ensures { Reads (spec.source room tokens.old) result tokens.new }
+#[tactic(auto, unfolding(crate::specs::Nesting::source_in))]
+pub fn source(
+    alloc: Global,
+    tokens: &mut Cursor<'_>,
+    room: usize,
+    levels: usize,
+) -> Result<Items<VModule>, Stop>
+    ensures { Reads (nesting.source_in room levels tokens.old) result tokens.new }
 {
-    let found = modules(alloc, tokens, room)?;
+    let found = modules(alloc, tokens, room, levels)?;
     tokens.finish()?;
     Ok(found)
 }

@@ -7,6 +7,7 @@ mod depth;
 mod expressions;
 mod items;
 mod left_out;
+mod levels;
 mod reading;
 mod statements;
 mod top;

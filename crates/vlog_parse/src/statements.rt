@@ -6,11 +6,13 @@ ghost use Rattle.parsing.specs.Reads.{Reads};
 ghost use Rattle.vlog_tree.specs.ReadExpressions.{mark, word};
 ghost use Rattle.vlog_tree.specs.ReadStatements as spec;
 ghost use Rattle.vlog_tree.specs.Statements as trees;
+ghost use Rattle.vlog_parse.specs.Nesting as nesting;
 ghost use Rattle.vlog_tree.specs.declared.tree_statements.VStmt.TheVariants as the_stmt;
 ghost use Rattle.vlog_tree.specs.Terminals.{is_mark, is_edge};
 
-use crate::cursor::{Cursor, DEEPEST_STATEMENT};
+use crate::cursor::Cursor;
 use crate::expressions::{boxed, boxed_left, next_exprs};
+use crate::levels::level_below;
 use parsing::stop::Stop;
 use sqlite_items::{Boxed, Items};
 use std::alloc::Global;
@@ -160,15 +162,20 @@ pub fn ends_open(stmt: &VStmt) -> bool
 /// `{stmt}`
 #[cycle(stmt)]
 #[tactic(auto, using(parsing::proofs::Turns::many_start, parsing::proofs::Turns::many_ends, parsing::proofs::Turns::many_over, parsing::proofs::Turns::many_turns, parsing::proofs::Turns::many_fails), unfolding(vlog_tree::specs::ReadStatements::stmts))]
-fn stmts(alloc: Global, tokens: &mut Cursor<'_>, inner: usize) -> Result<Items<VStmt>, Stop>
-    ensures { Reads (spec.stmts (spec.stmt inner) tokens.old) result tokens.new }
+fn stmts(
+    alloc: Global,
+    tokens: &mut Cursor<'_>,
+    inner: usize,
+    levels: usize,
+) -> Result<Items<VStmt>, Stop>
+    ensures { Reads (spec.stmts (nesting.stmt_in inner levels) tokens.old) result tokens.new }
 {
     let mut found = Items::new(alloc);
     for _turn in 0..tokens.len() {
         if !sees_stmt(tokens) {
             return Ok(found);
         }
-        found.push(stmt(alloc, tokens, inner)?.into_inner())?;
+        found.push(stmt(alloc, tokens, inner, levels)?.into_inner())?;
     }
     Ok(found)
 }
@@ -186,12 +193,17 @@ fn empty(alloc: Global, tokens: &mut Cursor<'_>) -> Result<Boxed<VStmt>, Stop>
 #[cycle(stmt)]
 #[inline(never)]
 #[tactic(auto, unfolding(vlog_tree::specs::ReadStatements::block))]
-fn block(alloc: Global, tokens: &mut Cursor<'_>, inner: usize) -> Result<Boxed<VStmt>, Stop>
-    ensures { Reads (spec.block (spec.stmt inner) tokens.old) result tokens.new }
+fn block(
+    alloc: Global,
+    tokens: &mut Cursor<'_>,
+    inner: usize,
+    levels: usize,
+) -> Result<Boxed<VStmt>, Stop>
+    ensures { Reads (spec.block (nesting.stmt_in inner levels) tokens.old) result tokens.new }
 {
     let word = tokens.word(alloc, b"begin")?;
     let label = any_label(alloc, tokens)?;
-    let stmts = stmts(alloc, tokens, inner)?;
+    let stmts = stmts(alloc, tokens, inner, levels)?;
     let end = tokens.word(alloc, b"end")?;
     Ok(Boxed::new(alloc, VStmt::Block(word, label, stmts, end))?)
 }
@@ -212,11 +224,16 @@ fn assign(alloc: Global, tokens: &mut Cursor<'_>, room: usize) -> Result<Boxed<V
 /// `"else" stmt`
 #[cycle(stmt)]
 #[tactic(auto, unfolding(vlog_tree::specs::ReadStatements::else_part))]
-fn else_part(alloc: Global, tokens: &mut Cursor<'_>, inner: usize) -> Result<VElse, Stop>
-    ensures { Reads (spec.else_part (spec.stmt inner) tokens.old) result tokens.new }
+fn else_part(
+    alloc: Global,
+    tokens: &mut Cursor<'_>,
+    inner: usize,
+    levels: usize,
+) -> Result<VElse, Stop>
+    ensures { Reads (spec.else_part (nesting.stmt_in inner levels) tokens.old) result tokens.new }
 {
     let word = tokens.word(alloc, b"else")?;
-    let stmt = stmt(alloc, tokens, inner)?;
+    let stmt = stmt(alloc, tokens, inner, levels)?;
     Ok(VElse { word, stmt })
 }
 
@@ -227,14 +244,15 @@ fn any_else(
     alloc: Global,
     tokens: &mut Cursor<'_>,
     inner: usize,
+    levels: usize,
     branch: &VStmt,
 ) -> Result<Option<VElse>, Stop>
-    ensures { Reads (spec.any_else (spec.stmt inner) branch.now tokens.old) result tokens.new }
+    ensures { Reads (spec.any_else (nesting.stmt_in inner levels) branch.now tokens.old) result tokens.new }
 {
     if ends_open(branch) || !tokens.sees_word(b"else") {
         return Ok(None);
     }
-    Ok(Some(else_part(alloc, tokens, inner)?))
+    Ok(Some(else_part(alloc, tokens, inner, levels)?))
 }
 
 /// `"if" "(" expr ")" stmt ["else" stmt]`
@@ -245,12 +263,13 @@ fn conditional(
     tokens: &mut Cursor<'_>,
     room: usize,
     inner: usize,
+    levels: usize,
 ) -> Result<Boxed<VStmt>, Stop>
-    ensures { Reads (spec.conditional room (spec.stmt inner) tokens.old) result tokens.new }
+    ensures { Reads (spec.conditional room (nesting.stmt_in inner levels) tokens.old) result tokens.new }
 {
     let head = if_head(alloc, tokens, room)?;
-    let branch = stmt(alloc, tokens, inner)?;
-    let other = any_else(alloc, tokens, inner, branch.get())?;
+    let branch = stmt(alloc, tokens, inner, levels)?;
+    let other = any_else(alloc, tokens, inner, levels, branch.get())?;
     Ok(Boxed::new(alloc, VStmt::If(head, branch, other))?)
 }
 
@@ -262,13 +281,14 @@ fn labelled(
     tokens: &mut Cursor<'_>,
     room: usize,
     inner: usize,
+    levels: usize,
 ) -> Result<VCitem, Stop>
-    ensures { Reads (spec.labelled room (spec.stmt inner) tokens.old) result tokens.new }
+    ensures { Reads (spec.labelled room (nesting.stmt_in inner levels) tokens.old) result tokens.new }
 {
     let first = boxed(alloc, tokens, room)?;
     let more = next_exprs(alloc, tokens, room)?;
     let colon = tokens.mark(alloc, b":")?;
-    let stmt = stmt(alloc, tokens, inner)?;
+    let stmt = stmt(alloc, tokens, inner, levels)?;
     let (first, stmt) = (first.into_inner(), stmt.into_inner());
     Ok(VCitem::Labels(first, more, colon, stmt))
 }
@@ -281,15 +301,16 @@ fn all_labelled(
     tokens: &mut Cursor<'_>,
     room: usize,
     inner: usize,
+    levels: usize,
 ) -> Result<Items<VCitem>, Stop>
-    ensures { Reads (spec.all_labelled room (spec.stmt inner) tokens.old) result tokens.new }
+    ensures { Reads (spec.all_labelled room (nesting.stmt_in inner levels) tokens.old) result tokens.new }
 {
     let mut found = Items::new(alloc);
     for _turn in 0..tokens.len() {
         if !tokens.sees_expr() {
             return Ok(found);
         }
-        found.push(labelled(alloc, tokens, room, inner)?)?;
+        found.push(labelled(alloc, tokens, room, inner, levels)?)?;
     }
     Ok(found)
 }
@@ -307,12 +328,17 @@ fn any_colon(alloc: Global, tokens: &mut Cursor<'_>) -> Result<Option<VToken>, S
 /// `"default" [":"] stmt`
 #[cycle(stmt)]
 #[tactic(auto, unfolding(vlog_tree::specs::ReadStatements::default_item))]
-fn default_item(alloc: Global, tokens: &mut Cursor<'_>, inner: usize) -> Result<VCitem, Stop>
-    ensures { Reads (spec.default_item (spec.stmt inner) tokens.old) result tokens.new }
+fn default_item(
+    alloc: Global,
+    tokens: &mut Cursor<'_>,
+    inner: usize,
+    levels: usize,
+) -> Result<VCitem, Stop>
+    ensures { Reads (spec.default_item (nesting.stmt_in inner levels) tokens.old) result tokens.new }
 {
     let word = tokens.word(alloc, b"default")?;
     let colon = any_colon(alloc, tokens)?;
-    let stmt = stmt(alloc, tokens, inner)?;
+    let stmt = stmt(alloc, tokens, inner, levels)?;
     Ok(VCitem::Default(word, colon, stmt.into_inner()))
 }
 
@@ -324,11 +350,12 @@ fn default_and_more(
     tokens: &mut Cursor<'_>,
     room: usize,
     inner: usize,
+    levels: usize,
 ) -> Result<(Boxed<VCitem>, Items<VCitem>), Stop>
-    ensures { Reads (spec.default_and_more room (spec.stmt inner) tokens.old) result tokens.new }
+    ensures { Reads (spec.default_and_more room (nesting.stmt_in inner levels) tokens.old) result tokens.new }
 {
-    let item = Boxed::new(alloc, default_item(alloc, tokens, inner)?)?;
-    let after = all_labelled(alloc, tokens, room, inner)?;
+    let item = Boxed::new(alloc, default_item(alloc, tokens, inner, levels)?)?;
+    let after = all_labelled(alloc, tokens, room, inner, levels)?;
     Ok((item, after))
 }
 
@@ -340,14 +367,15 @@ fn citems(
     tokens: &mut Cursor<'_>,
     room: usize,
     inner: usize,
+    levels: usize,
 ) -> Result<Items<VCitem>, Stop>
-    ensures { Reads (spec.citems room (spec.stmt inner) tokens.old) result tokens.new }
+    ensures { Reads (spec.citems room (nesting.stmt_in inner levels) tokens.old) result tokens.new }
 {
-    let mut found = all_labelled(alloc, tokens, room, inner)?;
+    let mut found = all_labelled(alloc, tokens, room, inner, levels)?;
     if !tokens.sees_word(b"default") {
         return Ok(found);
     }
-    let (item, after) = default_and_more(alloc, tokens, room, inner)?;
+    let (item, after) = default_and_more(alloc, tokens, room, inner, levels)?;
     found.push(item.into_inner())?;
     found.append(after)?;
     Ok(found)
@@ -360,11 +388,12 @@ fn cases_end(
     tokens: &mut Cursor<'_>,
     room: usize,
     inner: usize,
+    levels: usize,
 ) -> Result<(VToken, (Items<VCitem>, VToken)), Stop>
-    ensures { Reads (seq (mark (codes ")")) (λ _. seq (spec.citems room (spec.stmt inner)) (λ _. word (codes "endcase"))) tokens.old) result tokens.new }
+    ensures { Reads (seq (mark (codes ")")) (λ _. seq (spec.citems room (nesting.stmt_in inner levels)) (λ _. word (codes "endcase"))) tokens.old) result tokens.new }
 {
     let close = tokens.mark(alloc, b")")?;
-    let items = citems(alloc, tokens, room, inner)?;
+    let items = citems(alloc, tokens, room, inner, levels)?;
     let end = tokens.word(alloc, b"endcase")?;
     Ok((close, (items, end)))
 }
@@ -378,13 +407,14 @@ fn cases(
     tokens: &mut Cursor<'_>,
     room: usize,
     inner: usize,
+    levels: usize,
 ) -> Result<Boxed<VStmt>, Stop>
-    ensures { Reads (spec.cases room (spec.stmt inner) tokens.old) result tokens.new }
+    ensures { Reads (spec.cases room (nesting.stmt_in inner levels) tokens.old) result tokens.new }
 {
     let word = tokens.case_word(alloc)?;
     let open = tokens.mark(alloc, b"(")?;
     let selector = boxed(alloc, tokens, room)?;
-    let (close, (items, end)) = cases_end(alloc, tokens, room, inner)?;
+    let (close, (items, end)) = cases_end(alloc, tokens, room, inner, levels)?;
     let whole = VStmt::Case(word, open, selector, close, items, end);
     Ok(Boxed::new(alloc, whole)?)
 }
@@ -397,35 +427,41 @@ fn stmt_of(
     tokens: &mut Cursor<'_>,
     room: usize,
     inner: usize,
+    levels: usize,
 ) -> Result<Boxed<VStmt>, Stop>
-    ensures { Reads (spec.stmt_of room (spec.stmt inner) tokens.old) result tokens.new }
+    ensures { Reads (spec.stmt_of room (nesting.stmt_in inner levels) tokens.old) result tokens.new }
 {
     if tokens.sees_mark(b";") {
         return empty(alloc, tokens);
     }
     if tokens.sees_word(b"begin") {
-        return block(alloc, tokens, inner);
+        return block(alloc, tokens, inner, levels);
     }
     if tokens.sees_word(b"if") {
-        return conditional(alloc, tokens, room, inner);
+        return conditional(alloc, tokens, room, inner, levels);
     }
     if tokens.sees_case_word() {
-        return cases(alloc, tokens, room, inner);
+        return cases(alloc, tokens, room, inner, levels);
     }
     assign(alloc, tokens, room)
 }
 
-/// A statement that nests down to so many levels, in a box.
+/// A statement where it and those in it may stand in one another so many levels deep, in a box.
 #[cycle(stmt)]
-#[tactic(auto, using(crate::proofs::Rooms::stmt_none, crate::proofs::Rooms::stmt_down))]
-pub fn stmt(alloc: Global, tokens: &mut Cursor<'_>, room: usize) -> Result<Boxed<VStmt>, Stop>
-    ensures { Reads (spec.stmt room tokens.old) result tokens.new }
+#[tactic(auto, using(crate::proofs::Rooms::stmt_none))]
+pub fn stmt(
+    alloc: Global,
+    tokens: &mut Cursor<'_>,
+    room: usize,
+    levels: usize,
+) -> Result<Boxed<VStmt>, Stop>
+    ensures { Reads (nesting.stmt_in room levels tokens.old) result tokens.new }
 {
     if room == 0 {
         return Err(Stop::Sunk);
     }
-    if tokens.is_below(DEEPEST_STATEMENT, room) {
-        return Err(Stop::Memory);
+    match level_below(levels, 0) {
+        Ok(inner) => stmt_of(alloc, tokens, room, room - 1, inner),
+        Err(stop) => Err(stop),
     }
-    stmt_of(alloc, tokens, room, room - 1)
 }

@@ -427,7 +427,7 @@ fn is_read(alloc: Global, text: &str) -> Result<String, Fail> {
 }
 
 #[test]
-fn what_nests_deep_is_read_or_wants_memory(rt: HostRuntime) -> Result<(), Fail> {
+fn what_nests_deep_is_read_or_refused(rt: HostRuntime) -> Result<(), Fail> {
     let alloc = rt.alloc();
     let brackets = repeated(alloc, "", 64, "(", "c")?;
     let brackets = repeated(alloc, brackets.as_str(), 64, ")", "; endmodule")?;
@@ -438,8 +438,9 @@ fn what_nests_deep_is_read_or_wants_memory(rt: HostRuntime) -> Result<(), Fail> 
         (500, "if (a) ", "wire b; else "),
     );
     let (else_stmt, else_item) = ((1, "if (a) ", "; else "), (1, "if (a) ", "wire b; else "));
-    let last_stmt = repeated(alloc, "", 111, "if (a) ", "; endmodule")?;
+    let last_stmt = repeated(alloc, "", 110, "if (a) ", "; endmodule")?;
     let last_item = repeated(alloc, "", 55, "if (a) ", "wire b; endmodule")?;
+    let no_item = repeated(alloc, "", 55, "if (a) ", "endmodule")?;
     let cases = [
         (
             "module m; initial ",
@@ -461,13 +462,45 @@ fn what_nests_deep_is_read_or_wants_memory(rt: HostRuntime) -> Result<(), Fail> 
             4,
             stmt,
             last_stmt.as_str(),
-            "NoMemory",
+            "VlogDeep 1:14824",
         ),
-        ("module m; initial ", 99, stmt, "; endmodule", "NoMemory"),
+        (
+            "module m; initial ",
+            99,
+            stmt,
+            "; endmodule",
+            "VlogDeep 1:14824",
+        ),
         ("module m; ", 1024, else_item, "wire b; endmodule", "read"),
         ("module m; ", 2, item, last_item.as_str(), "read"),
-        ("module m; if (a) ", 2, item, last_item.as_str(), "NoMemory"),
-        ("module m; ", 99, item, "wire b; endmodule", "NoMemory"),
+        (
+            "module m; if (a) ",
+            2,
+            item,
+            last_item.as_str(),
+            "VlogDeep 1:7429",
+        ),
+        (
+            "module m; if (a) ",
+            2,
+            item,
+            no_item.as_str(),
+            "VlogSyntax 1:7429",
+        ),
+        (
+            "module m; ",
+            99,
+            item,
+            "wire b; endmodule",
+            "VlogDeep 1:7429",
+        ),
+        (
+            "module m; a b; ",
+            99,
+            item,
+            "wire b; endmodule",
+            "VlogSyntax 1:14",
+        ),
     ];
     for (start, groups, group, end, want) in cases {
         let text = grouped(alloc, start, groups, group, end)?;
@@ -518,6 +551,20 @@ fn the_top_is_the_one_module_without_an_instance(rt: HostRuntime) -> Result<(), 
         let answer = top(rt.alloc(), text)?;
         assert_eq!(rt; answer.as_str(), want, "of {text}");
     }
+    Ok(())
+}
+
+#[test]
+fn a_long_chain_of_modules_has_its_top(rt: HostRuntime) -> Result<(), Fail> {
+    let alloc = rt.alloc();
+    let mut text = String::from_str(alloc, "module m0; endmodule\n")?;
+    for below in 0u32..18_999 {
+        let above = below + 1;
+        write!(text, "module m{above}; m{below} u(); endmodule\n")?;
+    }
+    assert_eq!(rt; top(alloc, text.as_str())?.as_str(), "m18999");
+    text.push_str("module other; endmodule")?;
+    assert_eq!(rt; top(alloc, text.as_str())?.as_str(), "VlogName 0:0");
     Ok(())
 }
 

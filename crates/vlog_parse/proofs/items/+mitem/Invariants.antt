@@ -1,6 +1,7 @@
 use Rattle.std.proofs.Common.{◌≡◌, ◌+◌, ◌*◌, ◌-◌}
 use Rattle.parsing.specs.Parser.{many, many_from}
-use Rattle.vlog_tree.specs.ReadModules.{begins_mitem, mitem}
+use Rattle.vlog_tree.specs.ReadModules.{begins_mitem}
+use Rattle.vlog_parse.specs.Nesting.{mitem_in}
 use Rattle.vlog_parse.proofs.items.+mitem.Given as goal
 
 abbrev pub decreases-mitems : goal.decreases-mitems
@@ -37,4 +38,4 @@ abbrev pub decreases-mitem : goal.decreases-mitem
 decreases-mitem l = 9 * l.room
 
 abbrev pub invariant-mitems-loop-turn : goal.invariant-mitems-loop-turn
-invariant-mitems-loop-turn l = many begins_mitem (mitem l.inner) l.fn.tokens ≡ many_from begins_mitem (mitem l.inner) (l._turn-end - l._turn) l.found l.tokens
+invariant-mitems-loop-turn l = many begins_mitem (mitem_in l.inner l.levels) l.fn.tokens ≡ many_from begins_mitem (mitem_in l.inner l.levels) (l._turn-end - l._turn) l.found l.tokens

@@ -1,7 +1,8 @@
 use Rattle.std.proofs.Common.{◌≡◌, ◌+◌, ◌*◌, ◌-◌}
 use Rattle.parsing.specs.Parser.{many, many_from}
 use Rattle.vlog_tree.specs.ReadExpressions.{begins_expr}
-use Rattle.vlog_tree.specs.ReadStatements.{begins_stmt, stmt, labelled}
+use Rattle.vlog_tree.specs.ReadStatements.{begins_stmt, labelled}
+use Rattle.vlog_parse.specs.Nesting.{stmt_in}
 use Rattle.vlog_parse.proofs.statements.+stmt.Given as goal
 
 abbrev pub decreases-stmts : goal.decreases-stmts
@@ -47,7 +48,7 @@ abbrev pub decreases-stmt : goal.decreases-stmt
 decreases-stmt l = 9 * l.room
 
 abbrev pub invariant-stmts-loop-turn : goal.invariant-stmts-loop-turn
-invariant-stmts-loop-turn l = many begins_stmt (stmt l.inner) l.fn.tokens ≡ many_from begins_stmt (stmt l.inner) (l._turn-end - l._turn) l.found l.tokens
+invariant-stmts-loop-turn l = many begins_stmt (stmt_in l.inner l.levels) l.fn.tokens ≡ many_from begins_stmt (stmt_in l.inner l.levels) (l._turn-end - l._turn) l.found l.tokens
 
 abbrev pub invariant-all_labelled-loop-turn : goal.invariant-all_labelled-loop-turn
-invariant-all_labelled-loop-turn l = many begins_expr (labelled l.room (stmt l.inner)) l.fn.tokens ≡ many_from begins_expr (labelled l.room (stmt l.inner)) (l._turn-end - l._turn) l.found l.tokens
+invariant-all_labelled-loop-turn l = many begins_expr (labelled l.room (stmt_in l.inner l.levels)) l.fn.tokens ≡ many_from begins_expr (labelled l.room (stmt_in l.inner l.levels)) (l._turn-end - l._turn) l.found l.tokens
