@@ -9,7 +9,5 @@ pub mod plan;
 pub mod search;
 pub mod shorten;
 pub mod solver;
-#[cfg(test)]
-mod tests;
 pub mod turn;
 pub mod walk;

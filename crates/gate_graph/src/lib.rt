@@ -17,6 +17,3 @@ pub use graphs::Graph;
 pub use nodes::Node;
 pub use parts::{CircuitParts, Latch, Start};
 pub use wires::Wire;
-
-#[cfg(test)]
-mod tests;

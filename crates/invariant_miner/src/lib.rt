@@ -6,15 +6,11 @@ pub mod asked;
 pub mod candidates;
 mod columns;
 mod draws;
-#[cfg(test)]
-mod kept_tests;
 mod lanes;
 pub mod laws;
 mod rows;
 mod samples;
 pub mod set;
-#[cfg(test)]
-mod tests;
 pub mod thin;
 pub mod thinned;
 

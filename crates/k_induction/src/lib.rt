@@ -11,6 +11,3 @@ pub mod verdict;
 
 pub use query::Query;
 pub use verdict::{BadRun, LooseRun, SafeCircuit, Verdict};
-
-#[cfg(test)]
-mod tests;

@@ -11,5 +11,3 @@ pub mod laws;
 pub mod lemmas;
 pub mod literal;
 pub mod resolver;
-#[cfg(test)]
-mod tests;

@@ -18,6 +18,3 @@ pub use latch_literal::LatchLiteral;
 pub use model::run_of;
 pub use queries::{base_query, keep_query, step_query};
 pub use run::CircuitRun;
-
-#[cfg(test)]
-mod tests;

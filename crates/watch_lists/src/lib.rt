@@ -5,8 +5,6 @@ pub mod build;
 pub mod laws;
 pub mod look;
 pub mod scan;
-#[cfg(test)]
-mod tests;
 pub mod trail;
 pub mod visit;
 pub mod watch;

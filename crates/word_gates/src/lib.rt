@@ -33,6 +33,3 @@ pub use reductions::{all, any, equal, parity};
 pub use shifts::{shift_left, shift_right, shift_signed};
 pub use sums::{add, less, less_signed, negate, sub};
 pub use words::{and, or, xnor, xor};
-
-#[cfg(test)]
-mod tests;
