@@ -9,4 +9,5 @@ pub mod Names
 pub mod Assignments
 pub mod Forms
 pub mod Refusals
+pub mod OneAnswer
 pub mod Inside

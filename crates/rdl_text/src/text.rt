@@ -6,6 +6,7 @@ ghost use Rattle.bit_base.specs.declared.place.Place.{Place};
 ghost use Rattle.rdl_tree.specs.declared.tree.RdlItem.{out-RdlItem};
 ghost use Rattle.rdl_text.specs.Chains.{nows};
 ghost use Rattle.rdl_text.specs.Inside.{Inside, definition_in};
+ghost use Rattle.rdl_text.specs.OneAnswer.{HasOneAnswer};
 ghost use Rattle.rdl_text.specs.Refusals as spec;
 
 use crate::assignment::note_misassigned;
@@ -193,3 +194,8 @@ pub fn check_text(alloc: Global, file: &RdlFile) -> Result<(), RdlFault>
     }
     Ok(())
 }
+
+/// A law: two answers of `check_text` to one description are equal, but for want of memory.
+pub fn one_answer()
+    ensures { HasOneAnswer }
+{}
