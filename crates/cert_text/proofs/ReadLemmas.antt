@@ -126,7 +126,7 @@ unfolding next_of
 count_none c k line e = rw e refl
 
 -- the line of a clause
-clause_go : (c : Circuit) (k : ℕ) (set : List (List LatchLiteral)) (n latches : ℕ) (line : List ℕ) (d : List LatchLiteral) → length c.latches.items ≡ latches → clause_of latches line ≡ Some d → Goes (next_of c (ClausesDue k set (suc n)) line) (ClausesDue k (set ++ d ∷ []) n)
+pub clause_go : (c : Circuit) (k : ℕ) (set : List (List LatchLiteral)) (n latches : ℕ) (line : List ℕ) (d : List LatchLiteral) → length c.latches.items ≡ latches → clause_of latches line ≡ Some d → Goes (next_of c (ClausesDue k set (suc n)) line) (ClausesDue k (set ++ d ∷ []) n)
 unfolding next_of
 clause_go c k set n latches line d long e = rw (long, e) refl
 
@@ -273,7 +273,7 @@ unfolding next_of
 keep_due c k set = record { next = λ line. refl; open_yet = λ n. refl }
 
 -- behind the chains of a query
-closed_more : (k : ℕ) (set : List (List LatchLiteral)) (done : List (List Link)) (chains : List Link) → length done ≤ k → closed k set done chains ≡ ChainsDue k set (done ++ chains ∷ []) []
+pub closed_more : (k : ℕ) (set : List (List LatchLiteral)) (done : List (List Link)) (chains : List Link) → length done ≤ k → closed k set done chains ≡ ChainsDue k set (done ++ chains ∷ []) []
 closed_more k set done chains le = let test : nat_le (length done) k ≡ true = le-leb (length done) k le in rw test refl
 
 not_le : (i k : ℕ) → k < i → nat_le i k ≡ false
@@ -282,7 +282,7 @@ not_le i k lt = elim (cases_Bool (nat_le i k)) [ inl t ↦ absurd (let le : i �
 not_lt : (i k : ℕ) → k ≤ i → nat_lt i k ≡ false
 not_lt i k le = elim (cases_Bool (nat_lt i k)) [ inl t ↦ absurd (let lt : i < k = ltb-true i k t in omega arith) | inr f ↦ f ]
 
-closed_last : (k : ℕ) (set : List (List LatchLiteral)) (done : List (List Link)) (chains : List Link) → k < length done → closed k set done chains ≡ Ended k set (done ++ chains ∷ [])
+pub closed_last : (k : ℕ) (set : List (List LatchLiteral)) (done : List (List Link)) (chains : List Link) → k < length done → closed k set done chains ≡ Ended k set (done ++ chains ∷ [])
 closed_last k set done chains lt = let test : nat_le (length done) k ≡ false = not_le (length done) k lt in rw test refl
 
 pub keep_closed : (c : Circuit) (s : State) (k : ℕ) (set : List (List LatchLiteral)) (keep : List Link) (x y : List ℕ) (n m : ℕ) → Leads c s x n (closed k set [] keep) y m → Leads c s x n (ChainsDue k set (keep ∷ []) []) y m

@@ -7,11 +7,11 @@ ghost use Rattle.unroll_cnf.specs.Latches.{AreOfLatches, weight};
 ghost use Rattle.invariant_miner.specs.Thinned.{IsAskable};
 ghost use Rattle.k_induction.specs.Chains.{AreBases, RefuteStep, RefuteKeep};
 ghost use Rattle.gate_graph.specs.declared.circuits.Circuit.{Circuit};
-ghost use Rattle.cert_text.specs.Lines.{due_after};
 ghost use Rattle.cert_text.specs.Reading.{HeaderDue, ChainsDue, Ended, Link, Parts, IsCertificate, HasFault, UnlessWanting, Refuses};
 ghost use Rattle.cert_text.specs.Steps.{Reads, EndsWith};
 ghost use Rattle.cert_text.specs.Accepting.{Checks, IsSafeBy};
 
+use crate::due::due_line;
 use crate::fault::{CertCode, CertFault};
 use crate::lines::{Lines, MOST_BYTES};
 use crate::read::{read_bound, read_chains, read_count, read_due, read_set};
@@ -19,27 +19,10 @@ use gate_graph::Circuit;
 use invariant_miner::InductiveSet;
 use k_induction::SafeCircuit;
 use lemma_checker::chain::Chain;
-use std::alloc::{AllocError, Global};
+use std::alloc::Global;
 use std::vec::Vec;
 use unroll_cnf::limits::{MOST_EDGES, MOST_WEIGHT};
 use unroll_cnf::{LatchClause, base_query, keep_query, step_query};
-
-/// The line that is due behind the chains of query `j`.
-#[tactic(auto, unfolding(crate::specs::Lines::due_after))]
-fn due_line(alloc: Global, k: u32, j: u32) -> Result<Vec<u8>, AllocError>
-    ensures { IfOk result (λ line. line.items ≡ due_after k j) }
-{
-    if j < k {
-        let next = j + 1;
-        let line = format!(in alloc; "q base {next}")?;
-        return Ok(line.into_bytes());
-    }
-    if j == k {
-        b"q step".to_vec(alloc)
-    } else {
-        b"end".to_vec(alloc)
-    }
-}
 
 /// Reads the lines before the chains: k, and the set.
 fn read_head(
