@@ -16,6 +16,3 @@ pub mod write;
 pub use check::check_cert;
 pub use fault::{CertCode, CertFault};
 pub use write::write_cert;
-
-#[cfg(test)]
-mod tests;

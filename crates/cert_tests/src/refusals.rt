@@ -1,7 +1,6 @@
 //! A certificate, and what is wrong with others.
 
-use crate::check::check_cert;
-use crate::fault::{CertCode, CertFault};
+use cert_text::{CertCode, CertFault, check_cert};
 use gate_graph::{Circuit, CircuitParts, Graph, Latch, Start};
 use std::alloc::{AllocError, Global};
 use std::test::Fail;
