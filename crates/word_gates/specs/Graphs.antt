@@ -1,11 +1,11 @@
 -- Which graph each operator builds: its wires, and the nodes with its gates, as a function of the nodes before. A gate that
 -- is there is taken (`and_of`). Of a word, the gates of a place stand behind those of the places before it.
-use Rattle.std.specs.Prelude.{ℕ, ◌+◌, ◌-◌, ◌*◌, ◌%◌, ◌==◌, Bool, true, false, if◌then◌else◌, List, [], ◌∷◌, ◌++◌, length, take, drop, map, replicate, min}
+use Rattle.std.specs.Prelude.{ℕ, ◌+◌, ◌-◌, ◌*◌, ◌%◌, ◌==◌, Bool, true, false, if◌then◌else◌, List, [], ◌∷◌, ◌++◌, length, get_or, take, drop, map, replicate, min}
 use Rattle.std.specs.List.{fold}
 use Rattle.std.specs.Simd.Lanes.{zip2}
 use Rattle.gate_graph.specs.declared.wires.Wire.{Wire}
 use Rattle.gate_graph.specs.declared.nodes.Node.{Node}
-use Rattle.gate_graph.specs.Sharing.{wire_of, and_of}
+use Rattle.gate_graph.specs.Sharing.{and_of}
 use Rattle.word_gates.specs.Moving.{moved_by}
 
 -- the constant wires, and the wire that is true where this one is false
@@ -61,12 +61,15 @@ behind wires made = (wires ++ made.0 ∷ [], made.1)
 abbrev pub lanes : {X : Type 0} → (List Node → X → Wire × List Node) → List Node → List X → List Wire × List Node
 lanes f ns xs = fold (λ made x. behind made.0 (f made.1 x)) ([], ns) xs
 
--- what goes along, from place to place
-abbrev pub along : {S X : Type 0} → (List Node → S → X → S × List Node) → List Node → S → List X → S × List Node
-along f ns s xs = fold (λ made x. f made.1 made.0 x) (s, ns) xs
+-- what is carried from place to place
+abbrev pub carried : {S X : Type 0} → (List Node → S → X → S × List Node) → List Node → S → List X → S × List Node
+carried f ns s xs = fold (λ made x. f made.1 made.0 x) (s, ns) xs
 
 abbrev pub pairs : List Wire → List Wire → List (Wire × Wire)
 pairs a b = zip2 (λ x y. (x, y)) a b
+
+abbrev pub triples : List Wire → List Wire → List Wire → List (Wire × (Wire × Wire))
+triples a b c = zip2 (λ x p. (x, p)) a (pairs b c)
 
 unfoldable pub bitwise_made : ℕ → List Node → List Wire → List Wire → List Wire × List Node
 bitwise_made operator ns a b = lanes (λ g p. place_made operator g p.0 p.1) ns (pairs a b)
@@ -82,11 +85,11 @@ unfoldable pub forced_made : List Node → List Wire → Wire → List Wire × L
 forced_made ns a c = lanes (λ g x. or_made g x c) ns a
 
 unfoldable pub picked_made : List Node → List Wire → List Wire → List Wire → List Wire × List Node
-picked_made ns a b c = lanes (λ g p. pick_made g p.0 p.1.0 p.1.1) ns (zip2 (λ x p. (x, p)) a (pairs b c))
+picked_made ns a b c = lanes (λ g (p : Wire × (Wire × Wire)). pick_made g p.0 p.1.0 p.1.1) ns (triples a b c)
 
 -- reductions
 unfoldable pub chain_made : ℕ → List Node → Wire → List Wire → Wire × List Node
-chain_made operator ns w a = along (place_made operator) ns w a
+chain_made operator ns w a = carried (place_made operator) ns w a
 
 abbrev pub one_made : Wire × List Node → List Wire × List Node
 one_made made = (made.0 ∷ [], made.1)
@@ -119,11 +122,11 @@ sum_step_made ns s p =
 
 unfoldable pub sums_made : List Node → List Wire → List Wire → Wire → List Wire × List Node
 sums_made ns a b c =
-    let made = along sum_step_made ns ([], c) (pairs a b) in
+    let made = carried sum_step_made ns ([], c) (pairs a b) in
     (made.0.0, made.1)
 
 unfoldable pub carry_out_made : List Node → List Wire → List Wire → Wire → Wire × List Node
-carry_out_made ns a b c = along (λ g s p. carry_made g p.0 p.1 s) ns c (pairs a b)
+carry_out_made ns a b c = carried (λ g s p. carry_made g p.0 p.1 s) ns c (pairs a b)
 
 unfoldable pub add_made : List Node → List Wire → List Wire → List Wire × List Node
 add_made ns a b = sums_made ns a b off
@@ -152,7 +155,7 @@ stage_made left fill ns s bit =
 
 unfoldable pub barrel_made : Bool → List Node → List Wire → List Wire → Wire → List Wire × List Node
 barrel_made left ns a amount fill =
-    let made = along (stage_made left fill) ns (a, 1) amount in
+    let made = carried (stage_made left fill) ns (a, 1) amount in
     (made.0.0, made.1)
 
 -- the far places of an amount, from the twelfth on, say whether something is left
@@ -162,11 +165,11 @@ shifted_made left ns a b =
     let kept = masked_made far.1 a (inverse far.0) in
     barrel_made left kept.1 kept.0 (take (min (length b) 11) b) off
 
-unfoldable pub shifted_signed_made : List Node → List Wire → List Wire → Wire → List Wire × List Node
-shifted_signed_made ns a b sign =
+unfoldable pub shifted_signed_made : List Node → List Wire → List Wire → List Wire × List Node
+shifted_signed_made ns a b =
     let far = any_made ns (drop (min (length b) 11) b) in
     let amount = forced_made far.1 (take (min (length b) 11) b) far.0 in
-    barrel_made false amount.1 a amount.0 sign
+    barrel_made false amount.1 a amount.0 (get_or a (length a - 1) off)
 
 -- products: row by row, each by one place more
 unfoldable pub row_made : List Node → List Wire → List Wire → ℕ → Wire → List Wire × List Node
@@ -181,5 +184,5 @@ row_step_made a ns s bit =
 
 unfoldable pub product_made : List Node → List Wire → List Wire → List Wire × List Node
 product_made ns a b =
-    let made = along (row_step_made a) ns (replicate (length a) off, 0) b in
+    let made = carried (row_step_made a) ns (replicate (length a) off, 0) b in
     (made.0.0, made.1)

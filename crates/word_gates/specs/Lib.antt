@@ -1,3 +1,4 @@
+pub mod Graphs
 pub mod Moving
 pub mod Places
 pub mod Ripple

@@ -5,6 +5,7 @@ ghost use Rattle.gate_graph.specs.Gates.{AreOf, Extends};
 ghost use Rattle.bit_base.specs.Operators.{each_place};
 ghost use Rattle.word_gates.specs.Places.{place_of, gates_of};
 ghost use Rattle.word_gates.specs.Words.{values, Shows};
+ghost use Rattle.word_gates.specs.Graphs.{bitwise_made};
 
 use crate::places::place;
 use gate_graph::{Graph, Wire};
@@ -24,6 +25,7 @@ pub fn bitwise<const OPERATOR: u8>(
     ensures nodes { Extends graph.old graph.new (length a.now * gates_of OPERATOR) }
     ensures length { IfOk result (λ wires. length wires.items ≡ length a.now) }
     ensures value { IfOk result (λ wires. Shows graph.new wires.items (λ v. each_place (place_of OPERATOR) (values v a.now) (values v b.now))) }
+    ensures exact { IfOk result (λ wires. bitwise_made OPERATOR graph.old a.now b.now ≡ (wires.items, graph.new)) }
 {
     let wires = each_lane!(alloc, a.len(), i => place::<OPERATOR>(graph, a[i], b[i]));
     Ok(wires)

@@ -27,7 +27,7 @@ mod sums;
 mod words;
 
 pub use choices::{choose, pick};
-pub use places::{carry_wire, or_wire, pick_wire, sum_wire, xor_wire};
+pub use places::{carry_wire, inverted, or_wire, pick_wire, sum_wire, xor_wire};
 pub use products::mul;
 pub use reductions::{all, any, equal, parity};
 pub use shifts::{shift_left, shift_right, shift_signed};

@@ -5,6 +5,7 @@ ghost use Rattle.gate_graph.specs.Gates.{wire_value, AreOf, IsOf, Extends};
 ghost use Rattle.bit_base.specs.Numbers.{number_of};
 ghost use Rattle.word_gates.specs.Moving.{moved_by};
 ghost use Rattle.word_gates.specs.Words.{values, Shows};
+ghost use Rattle.word_gates.specs.Graphs.{between_made, barrel_made};
 
 use crate::choices::between;
 use crate::sums::repeated;
@@ -75,6 +76,7 @@ pub fn stage<const DIRECTION: u8>(
     ensures length { IfOk result (λ wires. length wires.items ≡ length a.now) }
     ensures value { IfOk result (λ wires. Shows graph.new wires.items
         (λ v. if wire_value v bit then moved_by (DIRECTION == UP) places (wire_value v fill) (values v a.now) else values v a.now)) }
+    ensures exact { IfOk result (λ wires. between_made graph.old (moved_by (DIRECTION == UP) places fill a.now) a.now bit ≡ (wires.items, graph.new)) }
 {
     let far = moved::<DIRECTION>(alloc, a, places, fill)?;
     let wires = between(graph, alloc, far.as_slice(), a, bit)?;
@@ -97,6 +99,7 @@ pub fn barrel<const DIRECTION: u8>(
     ensures nodes { Extends graph.old graph.new (length amount.now * (3 * length a.now)) }
     ensures length { IfOk result (λ wires. length wires.items ≡ length a.now) }
     ensures value { IfOk result (λ wires. Shows graph.new wires.items (λ v. moved_by (DIRECTION == UP) (number_of (values v amount.now)) (wire_value v fill) (values v a.now))) }
+    ensures exact { IfOk result (λ wires. barrel_made (DIRECTION == UP) graph.old a.now amount.now fill ≡ (wires.items, graph.new)) }
 {
     let mut word = Vec::new(alloc);
     word.extend_from_slice(a)?;

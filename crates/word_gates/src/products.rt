@@ -4,6 +4,7 @@ ghost use Rattle.std.specs.Prelude.{◌≡◌, ℕ, Bool, ◌&&◌, ◌+◌, ◌
 ghost use Rattle.gate_graph.specs.Gates.{wire_value, AreOf, IsOf, Extends};
 ghost use Rattle.bit_base.specs.Operators.{product_of, sum_of, shifted_left};
 ghost use Rattle.word_gates.specs.Words.{values, Shows};
+ghost use Rattle.word_gates.specs.Graphs.{row_made, product_made};
 
 use crate::choices::masked;
 use crate::moves::{UP, moved};
@@ -30,6 +31,7 @@ pub fn with_row(
     ensures length { IfOk result (λ wires. length wires.items ≡ length a.now) }
     ensures value { IfOk result (λ wires. Shows graph.new wires.items
         (λ v. sum_of (values v sum.now) (map (λ x. x && wire_value v bit) (shifted_left places (values v a.now))))) }
+    ensures exact { IfOk result (λ wires. row_made graph.old sum.now a.now places bit ≡ (wires.items, graph.new)) }
 {
     let zero = graph.zero();
     let higher = moved::<UP>(alloc, a, places, zero)?;
@@ -52,6 +54,7 @@ pub fn mul(
     ensures nodes { Extends graph.old graph.new (length a.now * (11 * length a.now)) }
     ensures length { IfOk result (λ wires. length wires.items ≡ length a.now) }
     ensures value { IfOk result (λ wires. Shows graph.new wires.items (λ v. product_of (values v a.now) (values v b.now))) }
+    ensures exact { IfOk result (λ wires. product_made graph.old a.now b.now ≡ (wires.items, graph.new)) }
 {
     let zero = graph.zero();
     let mut sum = repeated(alloc, zero, a.len())?;

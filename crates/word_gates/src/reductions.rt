@@ -5,9 +5,10 @@ ghost use Rattle.gate_graph.specs.Gates.{wire_value, AreOf, IsOf, Extends, Means
 ghost use Rattle.bit_base.specs.Operators.{are_all, is_any, is_odd, is_equal};
 ghost use Rattle.word_gates.specs.Places.{place_of, gates_of, chained};
 ghost use Rattle.word_gates.specs.Words.{values, Shows};
+ghost use Rattle.word_gates.specs.Graphs.{one_made, chain_made, any_made, all_made, parity_made, equal_made};
 
 use crate::bitwise::bitwise;
-use crate::places::{AND, OR, XNOR, XOR, place};
+use crate::places::{AND, OR, XNOR, XOR, inverted, place};
 use gate_graph::{Graph, Wire};
 use std::alloc::{AllocError, Global};
 
@@ -22,6 +23,7 @@ pub fn chain<const OPERATOR: u8>(
     requires room { length graph.old + length a.now * gates_of OPERATOR < 2 ^ 31 }
     ensures nodes { Extends graph.old graph.new (length a.now * gates_of OPERATOR) }
     ensures wire { IfOk result (λ w. Means graph.new w (λ v. chained (place_of OPERATOR) (wire_value v start) (values v a.now))) }
+    ensures exact { IfOk result (λ w. chain_made OPERATOR graph.old start a.now ≡ (w, graph.new)) }
 {
     let mut along = start;
     for i in 0..a.len() {
@@ -46,8 +48,9 @@ pub fn all(graph: &mut Graph, alloc: Global, a: &[Wire]) -> Result<Vec<Wire>, Al
     ensures nodes { Extends graph.old graph.new (length a.now) }
     ensures length { IfOk result (λ wires. length wires.items ≡ 1) }
     ensures value { IfOk result (λ wires. Shows graph.new wires.items (λ v. are_all (values v a.now) ∷ [])) }
+    ensures exact { IfOk result (λ wires. one_made (all_made graph.old a.now) ≡ (wires.items, graph.new)) }
 {
-    let start = graph.zero().inverted();
+    let start = inverted(graph.zero());
     let wire = chain::<AND>(graph, start, a)?;
     let wires = word_of(alloc, wire)?;
     Ok(wires)
@@ -59,6 +62,7 @@ pub fn any_wire(graph: &mut Graph, a: &[Wire]) -> Result<Wire, AllocError>
     requires room { length graph.old + length a.now < 2 ^ 31 }
     ensures nodes { Extends graph.old graph.new (length a.now) }
     ensures wire { IfOk result (λ w. Means graph.new w (λ v. is_any (values v a.now))) }
+    ensures exact { IfOk result (λ w. any_made graph.old a.now ≡ (w, graph.new)) }
 {
     let start = graph.zero();
     let wire = chain::<OR>(graph, start, a)?;
@@ -72,6 +76,7 @@ pub fn any(graph: &mut Graph, alloc: Global, a: &[Wire]) -> Result<Vec<Wire>, Al
     ensures nodes { Extends graph.old graph.new (length a.now) }
     ensures length { IfOk result (λ wires. length wires.items ≡ 1) }
     ensures value { IfOk result (λ wires. Shows graph.new wires.items (λ v. is_any (values v a.now) ∷ [])) }
+    ensures exact { IfOk result (λ wires. one_made (any_made graph.old a.now) ≡ (wires.items, graph.new)) }
 {
     let wire = any_wire(graph, a)?;
     let wires = word_of(alloc, wire)?;
@@ -85,6 +90,7 @@ pub fn parity(graph: &mut Graph, alloc: Global, a: &[Wire]) -> Result<Vec<Wire>,
     ensures nodes { Extends graph.old graph.new (3 * length a.now) }
     ensures length { IfOk result (λ wires. length wires.items ≡ 1) }
     ensures value { IfOk result (λ wires. Shows graph.new wires.items (λ v. is_odd (values v a.now) ∷ [])) }
+    ensures exact { IfOk result (λ wires. one_made (parity_made graph.old a.now) ≡ (wires.items, graph.new)) }
 {
     let start = graph.zero();
     let wire = chain::<XOR>(graph, start, a)?;
@@ -106,9 +112,10 @@ pub fn equal(
     ensures nodes { Extends graph.old graph.new (4 * length a.now) }
     ensures length { IfOk result (λ wires. length wires.items ≡ 1) }
     ensures value { IfOk result (λ wires. Shows graph.new wires.items (λ v. is_equal (values v a.now) (values v b.now) ∷ [])) }
+    ensures exact { IfOk result (λ wires. one_made (equal_made graph.old a.now b.now) ≡ (wires.items, graph.new)) }
 {
     let same = bitwise::<XNOR>(graph, alloc, a, b)?;
-    let start = graph.zero().inverted();
+    let start = inverted(graph.zero());
     let wire = chain::<AND>(graph, start, same.as_slice())?;
     let wires = word_of(alloc, wire)?;
     Ok(wires)

@@ -1,15 +1,16 @@
 //! Shifts by an amount of any length.
 
-ghost use Rattle.std.specs.Prelude.{◌≡◌, ◌==◌, ℕ, Bool, false, ◌||◌, ◌+◌, ◌*◌, ◌^◌, ◌<◌, ◌≤◌, min, map, length, IfOk};
+ghost use Rattle.std.specs.Prelude.{◌≡◌, ◌==◌, ℕ, Bool, true, false, ◌||◌, ◌+◌, ◌*◌, ◌^◌, ◌<◌, ◌≤◌, min, map, length, IfOk};
 ghost use Rattle.gate_graph.specs.Gates.{wire_value, AreOf, IsOf, Extends};
 ghost use Rattle.bit_base.specs.Numbers.{number_of, sign_of};
 ghost use Rattle.bit_base.specs.Operators.{shifted_left, shifted_right};
 ghost use Rattle.word_gates.specs.Moving.{moved_by};
 ghost use Rattle.word_gates.specs.Words.{values, Shows};
+ghost use Rattle.word_gates.specs.Graphs.{forced_made, shifted_made, shifted_signed_made};
 
 use crate::choices::masked;
 use crate::moves::{DOWN, UP, barrel};
-use crate::places::or_wire;
+use crate::places::{inverted, or_wire};
 use crate::reductions::any_wire;
 use gate_graph::{Graph, Wire};
 use std::alloc::{AllocError, Global};
@@ -31,10 +32,11 @@ pub fn shift<const DIRECTION: u8>(
     ensures nodes { Extends graph.old graph.new (3 * length a.now * min (length b.now) 11 + length b.now + length a.now) }
     ensures length { IfOk result (λ wires. length wires.items ≡ length a.now) }
     ensures value { IfOk result (λ wires. Shows graph.new wires.items (λ v. moved_by (DIRECTION == UP) (number_of (values v b.now)) false (values v a.now))) }
+    ensures exact { IfOk result (λ wires. shifted_made (DIRECTION == UP) graph.old a.now b.now ≡ (wires.items, graph.new)) }
 {
     let near = b.len().min(STAGES);
     let far = any_wire(graph, &b[near..])?;
-    let kept = masked(graph, alloc, a, far.inverted())?;
+    let kept = masked(graph, alloc, a, inverted(far))?;
     let zero = graph.zero();
     let wires = barrel::<DIRECTION>(graph, alloc, kept.as_slice(), &b[..near], zero)?;
     Ok(wires)
@@ -54,6 +56,7 @@ pub fn shift_left(
     ensures nodes { Extends graph.old graph.new (3 * length a.now * min (length b.now) 11 + length b.now + length a.now) }
     ensures length { IfOk result (λ wires. length wires.items ≡ length a.now) }
     ensures value { IfOk result (λ wires. Shows graph.new wires.items (λ v. shifted_left (number_of (values v b.now)) (values v a.now))) }
+    ensures exact { IfOk result (λ wires. shifted_made true graph.old a.now b.now ≡ (wires.items, graph.new)) }
 {
     shift::<UP>(graph, alloc, a, b)
 }
@@ -72,6 +75,7 @@ pub fn shift_right(
     ensures nodes { Extends graph.old graph.new (3 * length a.now * min (length b.now) 11 + length b.now + length a.now) }
     ensures length { IfOk result (λ wires. length wires.items ≡ length a.now) }
     ensures value { IfOk result (λ wires. Shows graph.new wires.items (λ v. shifted_right (number_of (values v b.now)) false (values v a.now))) }
+    ensures exact { IfOk result (λ wires. shifted_made false graph.old a.now b.now ≡ (wires.items, graph.new)) }
 {
     shift::<DOWN>(graph, alloc, a, b)
 }
@@ -89,6 +93,7 @@ pub fn forced(
     ensures nodes { Extends graph.old graph.new (length a.now * 1) }
     ensures length { IfOk result (λ wires. length wires.items ≡ length a.now) }
     ensures value { IfOk result (λ wires. Shows graph.new wires.items (λ v. map (λ x. x || wire_value v c) (values v a.now))) }
+    ensures exact { IfOk result (λ wires. forced_made graph.old a.now c ≡ (wires.items, graph.new)) }
 {
     let wires = each_lane!(alloc, a.len(), i => or_wire(graph, a[i], c));
     Ok(wires)
@@ -111,6 +116,7 @@ pub fn shift_signed(
     ensures length { IfOk result (λ wires. length wires.items ≡ length a.now) }
     ensures value { IfOk result (λ wires. Shows graph.new wires.items
         (λ v. shifted_right (number_of (values v b.now)) (sign_of (values v a.now)) (values v a.now))) }
+    ensures exact { IfOk result (λ wires. shifted_signed_made graph.old a.now b.now ≡ (wires.items, graph.new)) }
 {
     let sign = a[a.len() - 1];
     let near = b.len().min(STAGES);

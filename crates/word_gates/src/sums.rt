@@ -1,13 +1,15 @@
 //! Sums, differences and comparisons.
 
-ghost use Rattle.std.specs.Prelude.{◌≡◌, ℕ, Bool, not, ◌&&◌, ◌||◌, ◌+◌, ◌*◌, ◌^◌, ◌<◌, List, [], ◌∷◌, map, replicate, length, IfOk, OnOk};
+ghost use Rattle.std.specs.Prelude.{◌≡◌, ℕ, Bool, not, ◌&&◌, ◌||◌, ◌+◌, ◌*◌, ◌^◌, ◌<◌, List, [], ◌∷◌, ◌++◌, map, replicate, length, IfOk, OnOk};
 ghost use Rattle.gate_graph.specs.declared.nodes.Node.{Node};
 ghost use Rattle.gate_graph.specs.Gates.{wire_value, AreOf, IsOf, Extends, Means};
 ghost use Rattle.bit_base.specs.Operators.{differ, sum_of, difference_of, negation_of, is_less, is_less_signed};
 ghost use Rattle.word_gates.specs.Ripple.{sum_bits, carry_bits, with_sign_inverted};
 ghost use Rattle.word_gates.specs.Words.{values, Shows};
+ghost use Rattle.word_gates.specs.Graphs.{inverse, one_made, sum_step_made, sums_made, carry_out_made, add_made, sub_made, negate_made, less_made, sign_inverse, less_signed_made};
+ghost use Rattle.gate_graph.specs.declared.wires.Wire.{Wire};
 
-use crate::places::{carry_wire, sum_wire};
+use crate::places::{carry_wire, inverted, sum_wire};
 use crate::reductions::word_of;
 use gate_graph::{Graph, Wire};
 use std::alloc::{AllocError, Global};
@@ -21,6 +23,7 @@ pub fn sum_step(graph: &mut Graph, a: Wire, b: Wire, carry: &mut Wire) -> Result
     ensures extends { Extends graph.old graph.new 10 }
     ensures sum { IfOk result (λ w. Means graph.new w (λ v. differ (differ (wire_value v a) (wire_value v b)) (wire_value v carry.old))) }
     ensures carry { OnOk result (Means graph.new carry.new (λ v. wire_value v a && wire_value v b || wire_value v carry.old && (wire_value v a || wire_value v b))) }
+    ensures exact { IfOk result (λ w. (wires : List Wire) → sum_step_made graph.old (wires, carry.old) (a, b) ≡ ((wires ++ w ∷ [], carry.new), graph.new)) }
 {
     let sum = sum_wire(graph, a, b, *carry)?;
     let carried = carry_wire(graph, a, b, *carry)?;
@@ -44,6 +47,7 @@ pub fn sums(
     ensures nodes { Extends graph.old graph.new (length a.now * 10) }
     ensures length { IfOk result (λ wires. length wires.items ≡ length a.now) }
     ensures value { IfOk result (λ wires. Shows graph.new wires.items (λ v. sum_bits (values v a.now) (values v b.now) (wire_value v start))) }
+    ensures exact { IfOk result (λ wires. sums_made graph.old a.now b.now start ≡ (wires.items, graph.new)) }
 {
     let mut carry = start;
     let wires = each_lane!(alloc, a.len(), i => sum_step(graph, a[i], b[i], &mut carry));
@@ -59,6 +63,7 @@ pub fn carry_out(graph: &mut Graph, a: &[Wire], b: &[Wire], start: Wire) -> Resu
     requires room { length graph.old + length a.now * 4 < 2 ^ 31 }
     ensures nodes { Extends graph.old graph.new (length a.now * 4) }
     ensures wire { IfOk result (λ w. Means graph.new w (λ v. carry_bits (values v a.now) (values v b.now) (wire_value v start))) }
+    ensures exact { IfOk result (λ w. carry_out_made graph.old a.now b.now start ≡ (w, graph.new)) }
 {
     let mut carry = start;
     for i in 0..a.len() {
@@ -71,10 +76,11 @@ pub fn carry_out(graph: &mut Graph, a: &[Wire], b: &[Wire], start: Wire) -> Resu
 pub fn inverted_word(alloc: Global, a: &[Wire]) -> Result<Vec<Wire>, AllocError>
     ensures length { IfOk result (λ wires. length wires.items ≡ length a.now) }
     ensures value { IfOk result (λ wires. (nodes : List Node) → AreOf a.now nodes → Shows nodes wires.items (λ v. map not (values v a.now))) }
+    ensures exact { IfOk result (λ wires. wires.items ≡ map inverse a.now) }
 {
     let mut wires = Vec::new(alloc);
     for i in 0..a.len() {
-        wires.push(a[i].inverted())?;
+        wires.push(inverted(a[i]))?;
     }
     Ok(wires)
 }
@@ -84,11 +90,12 @@ pub fn sign_inverted(alloc: Global, a: &[Wire]) -> Result<Vec<Wire>, AllocError>
     requires { 0 < length a.now }
     ensures length { IfOk result (λ wires. length wires.items ≡ length a.now) }
     ensures value { IfOk result (λ wires. (nodes : List Node) → AreOf a.now nodes → Shows nodes wires.items (λ v. with_sign_inverted (values v a.now))) }
+    ensures exact { IfOk result (λ wires. wires.items ≡ sign_inverse a.now) }
 {
     let last = a.len() - 1;
     let mut wires = Vec::new(alloc);
     wires.extend_from_slice(&a[..last])?;
-    wires.push(a[last].inverted())?;
+    wires.push(inverted(a[last]))?;
     Ok(wires)
 }
 
@@ -117,6 +124,7 @@ pub fn add(
     ensures nodes { Extends graph.old graph.new (10 * length a.now) }
     ensures length { IfOk result (λ wires. length wires.items ≡ length a.now) }
     ensures value { IfOk result (λ wires. Shows graph.new wires.items (λ v. sum_of (values v a.now) (values v b.now))) }
+    ensures exact { IfOk result (λ wires. add_made graph.old a.now b.now ≡ (wires.items, graph.new)) }
 {
     let start = graph.zero();
     let wires = sums(graph, alloc, a, b, start)?;
@@ -137,8 +145,9 @@ pub fn sub(
     ensures nodes { Extends graph.old graph.new (10 * length a.now) }
     ensures length { IfOk result (λ wires. length wires.items ≡ length a.now) }
     ensures value { IfOk result (λ wires. Shows graph.new wires.items (λ v. difference_of (values v a.now) (values v b.now))) }
+    ensures exact { IfOk result (λ wires. sub_made graph.old a.now b.now ≡ (wires.items, graph.new)) }
 {
-    let start = graph.zero().inverted();
+    let start = inverted(graph.zero());
     let opposite = inverted_word(alloc, b)?;
     let wires = sums(graph, alloc, a, opposite.as_slice(), start)?;
     Ok(wires)
@@ -151,6 +160,7 @@ pub fn negate(graph: &mut Graph, alloc: Global, a: &[Wire]) -> Result<Vec<Wire>,
     ensures nodes { Extends graph.old graph.new (10 * length a.now) }
     ensures length { IfOk result (λ wires. length wires.items ≡ length a.now) }
     ensures value { IfOk result (λ wires. Shows graph.new wires.items (λ v. negation_of (values v a.now))) }
+    ensures exact { IfOk result (λ wires. negate_made graph.old a.now ≡ (wires.items, graph.new)) }
 {
     let zero = graph.zero();
     let zeros = repeated(alloc, zero, a.len())?;
@@ -172,11 +182,12 @@ pub fn less(
     ensures nodes { Extends graph.old graph.new (4 * length a.now) }
     ensures length { IfOk result (λ wires. length wires.items ≡ 1) }
     ensures value { IfOk result (λ wires. Shows graph.new wires.items (λ v. is_less (values v a.now) (values v b.now) ∷ [])) }
+    ensures exact { IfOk result (λ wires. one_made (less_made graph.old a.now b.now) ≡ (wires.items, graph.new)) }
 {
-    let start = graph.zero().inverted();
+    let start = inverted(graph.zero());
     let opposite = inverted_word(alloc, b)?;
     let carry = carry_out(graph, a, opposite.as_slice(), start)?;
-    let wire = carry.inverted();
+    let wire = inverted(carry);
     let wires = word_of(alloc, wire)?;
     Ok(wires)
 }
@@ -196,6 +207,7 @@ pub fn less_signed(
     ensures nodes { Extends graph.old graph.new (4 * length a.now) }
     ensures length { IfOk result (λ wires. length wires.items ≡ 1) }
     ensures value { IfOk result (λ wires. Shows graph.new wires.items (λ v. is_less_signed (values v a.now) (values v b.now) ∷ [])) }
+    ensures exact { IfOk result (λ wires. one_made (less_signed_made graph.old a.now b.now) ≡ (wires.items, graph.new)) }
 {
     let left = sign_inverted(alloc, a)?;
     let right = sign_inverted(alloc, b)?;

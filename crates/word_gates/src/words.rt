@@ -4,6 +4,7 @@ ghost use Rattle.std.specs.Prelude.{◌≡◌, ℕ, Bool, ◌+◌, ◌*◌, ◌^
 ghost use Rattle.gate_graph.specs.Gates.{AreOf, Extends};
 ghost use Rattle.bit_base.specs.Operators.{and_of, or_of, xor_of, xnor_of};
 ghost use Rattle.word_gates.specs.Words.{values, Shows};
+ghost use Rattle.word_gates.specs.Graphs.{bitwise_made};
 
 use crate::bitwise::bitwise;
 use crate::places::{AND, OR, XNOR, XOR};
@@ -24,6 +25,7 @@ pub fn and(
     ensures nodes { Extends graph.old graph.new (length a.now) }
     ensures length { IfOk result (λ wires. length wires.items ≡ length a.now) }
     ensures value { IfOk result (λ wires. Shows graph.new wires.items (λ v. and_of (values v a.now) (values v b.now))) }
+    ensures exact { IfOk result (λ wires. bitwise_made 0 graph.old a.now b.now ≡ (wires.items, graph.new)) }
 {
     bitwise::<AND>(graph, alloc, a, b)
 }
@@ -37,6 +39,7 @@ pub fn or(graph: &mut Graph, alloc: Global, a: &[Wire], b: &[Wire]) -> Result<Ve
     ensures nodes { Extends graph.old graph.new (length a.now) }
     ensures length { IfOk result (λ wires. length wires.items ≡ length a.now) }
     ensures value { IfOk result (λ wires. Shows graph.new wires.items (λ v. or_of (values v a.now) (values v b.now))) }
+    ensures exact { IfOk result (λ wires. bitwise_made 1 graph.old a.now b.now ≡ (wires.items, graph.new)) }
 {
     bitwise::<OR>(graph, alloc, a, b)
 }
@@ -55,6 +58,7 @@ pub fn xor(
     ensures nodes { Extends graph.old graph.new (3 * length a.now) }
     ensures length { IfOk result (λ wires. length wires.items ≡ length a.now) }
     ensures value { IfOk result (λ wires. Shows graph.new wires.items (λ v. xor_of (values v a.now) (values v b.now))) }
+    ensures exact { IfOk result (λ wires. bitwise_made 2 graph.old a.now b.now ≡ (wires.items, graph.new)) }
 {
     bitwise::<XOR>(graph, alloc, a, b)
 }
@@ -73,6 +77,7 @@ pub fn xnor(
     ensures nodes { Extends graph.old graph.new (3 * length a.now) }
     ensures length { IfOk result (λ wires. length wires.items ≡ length a.now) }
     ensures value { IfOk result (λ wires. Shows graph.new wires.items (λ v. xnor_of (values v a.now) (values v b.now))) }
+    ensures exact { IfOk result (λ wires. bitwise_made 3 graph.old a.now b.now ≡ (wires.items, graph.new)) }
 {
     bitwise::<XNOR>(graph, alloc, a, b)
 }

@@ -6,6 +6,11 @@ use Rattle.word_gates.proofs.WordLemmas.{shows_same, length-values, of_at, room_
 use Rattle.word_gates.proofs.ProductLaws.{product_none, product_more, product_all}
 use Rattle.std.proofs.lemmas.List.{length-replicate}
 use Rattle.word_gates.proofs.RippleLemmas.{shows_repeated, values_at}
+use Rattle.std.proofs.Common.{List}
+use Rattle.gate_graph.specs.declared.nodes.Node.{Node}
+use Rattle.gate_graph.specs.declared.wires.Wire.{Wire}
+use Rattle.word_gates.specs.Graphs.{product_made, row_step_made}
+use Rattle.word_gates.proofs.ExactLemmas.{off_is, along_wire, along_end}
 use Rattle.word_gates.proofs.products.mul.Goals as goal
 
 pub loop-i-init : goal.loop-i-init
@@ -15,6 +20,7 @@ loop-i-init c =
       extends = extends_none _ _;
       size = length-replicate (length c.args.a.now) c.zero-zero.result;
       shows = shows_same _ _ _ _ zeros (λ v r. ap (λ n. replicate n false) (sym (length-values v c.args.a.now)) ∙ product_none (values v c.args.a.now) (values v c.args.b.now));
+      exact = ap (λ w. ((replicate (length c.args.a.now) w, 0), c.args.graph.now)) (sym (off_is c.zero-zero.result c.zero-zero.ensures.wire));
     }
 
 pub with_row-requires-clause-sum_of : goal.with_row-requires-clause-sum_of
@@ -40,6 +46,7 @@ loop-i-preserved c =
           let before : Respects v c.loop-i.graph = respects_old v _ _ _ c.with_row.ensures.nodes r in
           rw (c.as_slice.ensures.value, c.loop-i.invariant.shows.value v before, ← values_at v c.args.b.now c.loop-i.i within)
           (product_more (values v c.args.a.now) (values v c.args.b.now) c.loop-i.i (rw (length-values v c.args.a.now) inside) (rw (length-values v c.args.b.now) within)));
+      exact = along_wire (row_step_made c.args.a.now) _ _ c.args.b.now c.loop-i.i _ _ _ _ c.loop-i-test.true (ap (λ (r : List Wire × List Node). ((r.0, c.loop-i.i + 1), r.1)) (rw c.as_slice.ensures.value at c.in_ok-sum-2.ensures.exact)) c.loop-i.invariant.exact;
     }
 
 pub returns-clause-nodes : goal.returns-clause-nodes
@@ -47,3 +54,7 @@ returns-clause-nodes c = extends_at _ _ _ _ c.loop-i.invariant.extends (within_a
 
 pub returns-clause-value : goal.returns-clause-value
 returns-clause-value c = shows_same _ _ _ _ c.loop-i.invariant.shows (λ v r. product_all (values v c.args.a.now) (values v c.args.b.now) c.loop-i.i (rw (length-values v c.args.b.now) (omega arith)))
+
+pub returns-clause-exact : goal.returns-clause-exact
+unfolding product_made
+returns-clause-exact c = ap (λ m. (m.0.0, m.1)) (along_end (row_step_made c.args.a.now) _ _ c.args.b.now c.loop-i.i _ c.loop-i-test.false c.loop-i.invariant.exact)

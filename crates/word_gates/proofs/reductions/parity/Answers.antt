@@ -3,6 +3,10 @@ use Rattle.gate_graph.proofs.GateLemmas.{respects_old}
 use Rattle.word_gates.specs.Words.{values}
 use Rattle.word_gates.proofs.WordLemmas.{extends_at, shows_one, means_same}
 use Rattle.word_gates.proofs.ReductionLaws.{odd_is}
+use Rattle.std.proofs.Common.{List, ap, sym, ◌∙◌}
+use Rattle.gate_graph.specs.declared.wires.Wire.{Wire}
+use Rattle.word_gates.specs.Graphs.{one_made, parity_made}
+use Rattle.word_gates.proofs.ExactLemmas.{off_is}
 use Rattle.word_gates.proofs.reductions.parity.Goals as goal
 
 pub returns-clause-nodes : goal.returns-clause-nodes
@@ -11,3 +15,9 @@ returns-clause-nodes c = extends_at _ _ _ _ c.chain.ensures.nodes (omega arith)
 pub returns-clause-value : goal.returns-clause-value
 returns-clause-value c = rw c.in_ok-wires.ensures (shows_one _ _ _ (means_same _ _ _ _ c.in_ok-wire.ensures.wire (λ v r.
     rw (c.zero-start.ensures.value.value v (respects_old v _ _ _ c.chain.ensures.nodes r)) (odd_is (values v c.args.a.now)))))
+
+pub returns-clause-exact : goal.returns-clause-exact
+unfolding parity_made
+returns-clause-exact c =
+    let made = rw (off_is c.zero-start.result c.zero-start.ensures.wire) at c.in_ok-wire.ensures.exact in
+    ap one_made made ∙ ap (λ (ws : List Wire). (ws, c.chain.new.graph)) (sym c.in_ok-wires.ensures)

@@ -3,6 +3,8 @@ use Rattle.gate_graph.specs.Gates.{wire_value}
 use Rattle.gate_graph.proofs.GateLemmas.{extends_more, extends_none}
 use Rattle.word_gates.proofs.WordLemmas.{of_at, room_at, so_far_more, so_far_all, so_far_none}
 use Rattle.word_gates.proofs.PlaceLemmas.{mapped_more, mapped_end}
+use Rattle.word_gates.specs.Graphs.{forced_made, or_made}
+use Rattle.word_gates.proofs.ExactLemmas.{lanes_wire, lanes_end}
 use Rattle.word_gates.proofs.shifts.forced.Goals as goal
 
 pub or_wire-requires-clause-a_of : goal.or_wire-requires-clause-a_of
@@ -12,7 +14,7 @@ pub or_wire-requires-clause-room : goal.or_wire-requires-clause-room
 or_wire-requires-clause-room c = room_at _ _ _ _ _ c.loop-i.invariant.extends.bound c.loop-i-test.true (omega (arith, c.requires.room))
 
 pub loop-i-init : goal.loop-i-init
-loop-i-init c = rw c.new-wires.ensures.items record { extends = extends_none _ _; size = refl; so_far = so_far_none _ _ }
+loop-i-init c = rw c.new-wires.ensures.items record { extends = extends_none _ _; size = refl; so_far = so_far_none _ _; exact = refl }
 
 pub loop-i-preserved : goal.loop-i-preserved
 loop-i-preserved c = rw c.in_ok-push.ensures.items record {
@@ -20,7 +22,12 @@ loop-i-preserved c = rw c.in_ok-push.ensures.items record {
   size = omega (arith, length-append c.loop-i.wires.items (c.in_ok-wire.wire ∷ []), c.loop-i.invariant.size);
   so_far = so_far_more _ _ _ _ _ _ _ _ _ c.or_wire.ensures.extends c.loop-i.invariant.so_far c.in_ok-wire.ensures.wire
       (λ v r. mapped_more (λ x. x || wire_value v c.args.c) v c.args.a.now c.loop-i.i c.loop-i-test.true);
+  exact = lanes_wire (λ n x. or_made n x c.args.c) _ c.args.a.now c.loop-i.i _ _ _ _ c.loop-i-test.true c.in_ok-wire.ensures.exact c.loop-i.invariant.exact;
 }
 
 pub returns-clause-value : goal.returns-clause-value
 returns-clause-value c = so_far_all _ _ _ _ c.loop-i.invariant.so_far (λ v. mapped_end (λ x. x || wire_value v c.args.c) v c.args.a.now c.loop-i.i (omega arith))
+
+pub returns-clause-exact : goal.returns-clause-exact
+unfolding forced_made
+returns-clause-exact c = lanes_end (λ n x. or_made n x c.args.c) _ c.args.a.now c.loop-i.i _ c.loop-i-test.false c.loop-i.invariant.exact

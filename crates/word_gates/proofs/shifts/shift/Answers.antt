@@ -6,6 +6,7 @@ use Rattle.word_gates.proofs.WordLemmas.{shows_same, length-values, extends_sum,
 use Rattle.word_gates.proofs.MovingLaws.{shift_by_near, shift_bound}
 use Rattle.std.specs.List.{take-map}
 use Rattle.std.proofs.lemmas.List.{length-take, length-drop, drop-map, take_rest}
+use Rattle.word_gates.proofs.ExactLemmas.{off_is, shifted_by}
 use Rattle.word_gates.proofs.shifts.shift.Goals as goal
 
 pub returns-in_err-wires-clause-nodes : goal.returns-in_err-wires-clause-nodes
@@ -38,3 +39,10 @@ returns-clause-value g c = shows_same _ _ _ _ c.in_ok-wires.ensures.value (λ v 
       ← drop-map (wire_value v) c.min-near.result c.args.b.now,
     )
     (shift_by_near (g.row.DIRECTION == 0) c.min-near.result (values v c.args.a.now) (values v c.args.b.now) near (rw (length-values v c.args.a.now) c.requires.places)))
+
+pub returns-clause-exact : goal.returns-clause-exact
+returns-clause-exact g c =
+    shifted_by (g.row.DIRECTION == 0) _ c.any_wire.new.graph c.masked.new.graph _ c.args.a.now c.args.b.now c.in_ok-kept.kept.items _ c.in_ok-far.far c.min-near.result c.min-near.ensures
+    (rw (take_rest c.args.b.now c.min-near.result) at c.in_ok-far.ensures.exact)
+    (rw c.inverted.ensures.exact at c.in_ok-kept.ensures.exact)
+    (rw (c.as_slice.ensures.value, off_is c.zero-zero.result c.zero-zero.ensures.wire) at c.in_ok-wires.ensures.exact)

@@ -7,6 +7,7 @@ use Rattle.word_gates.proofs.MovingLaws.{shift_by_forced, forced_bound}
 use Rattle.std.specs.List.{take-map}
 use Rattle.std.proofs.lemmas.List.{length-take, length-drop, drop-map, take_rest}
 use Rattle.word_gates.proofs.RippleLemmas.{values_at}
+use Rattle.word_gates.proofs.ExactLemmas.{forced_by}
 use Rattle.word_gates.proofs.shifts.shift_signed.Goals as goal
 
 pub returns-in_err-wires-clause-nodes : goal.returns-in_err-wires-clause-nodes
@@ -40,3 +41,10 @@ returns-clause-value c = shows_same _ _ _ _ c.in_ok-wires.ensures.value (λ v r.
       ← length-values v c.args.a.now,
     )
     (shift_by_forced c.min-near.result (values v c.args.a.now) (values v c.args.b.now) near (rw (length-values v c.args.a.now) c.requires.some) (rw (length-values v c.args.a.now) c.requires.places)))
+
+pub returns-clause-exact : goal.returns-clause-exact
+returns-clause-exact c =
+    forced_by _ c.any_wire.new.graph c.forced.new.graph _ c.args.a.now c.args.b.now c.in_ok-amount.amount.items _ c.in_ok-far.far c.min-near.result c.min-near.ensures
+    (rw (take_rest c.args.b.now c.min-near.result) at c.in_ok-far.ensures.exact)
+    c.in_ok-amount.ensures.exact
+    (rw c.as_slice.ensures.value at c.in_ok-wires.ensures.exact)

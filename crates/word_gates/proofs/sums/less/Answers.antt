@@ -4,6 +4,11 @@ use Rattle.word_gates.specs.Words.{values}
 use Rattle.word_gates.proofs.WordLemmas.{shows_one, same_length}
 use Rattle.word_gates.proofs.SumLaws.{less_is}
 use Rattle.word_gates.proofs.RippleLemmas.{means_inverted}
+use Rattle.std.proofs.Common.{List, [], ◌∷◌, ap, sym, ◌∙◌}
+use Rattle.gate_graph.specs.declared.nodes.Node.{Node}
+use Rattle.gate_graph.specs.declared.wires.Wire.{Wire}
+use Rattle.word_gates.specs.Graphs.{one_made, inverted_made, less_made}
+use Rattle.word_gates.proofs.ExactLemmas.{off_is}
 use Rattle.word_gates.proofs.sums.less.Goals as goal
 
 pub returns-clause-value : goal.returns-clause-value
@@ -21,3 +26,10 @@ returns-clause-value c = rw c.in_ok-wires.ensures (shows_one _ _ _ record {
       )
       (less_is (values v c.args.a.now) (values v c.args.b.now) (same_length v c.args.a.now c.args.b.now c.requires.lengths));
 })
+
+pub returns-clause-exact : goal.returns-clause-exact
+unfolding less_made
+returns-clause-exact c =
+    let carry = rw (c.as_slice.ensures.value, c.in_ok-opposite.ensures.exact, c.inverted-start.ensures.exact, off_is c.zero.result c.zero.ensures.wire) at c.in_ok-carry.ensures.exact in
+    ap (λ (m : Wire × List Node). one_made (inverted_made m)) carry
+    ∙ (ap (λ (w : Wire). (w ∷ [], c.carry_out.new.graph)) (sym c.inverted-wire.ensures.exact) ∙ ap (λ (ws : List Wire). (ws, c.carry_out.new.graph)) (sym c.in_ok-wires.ensures))
