@@ -1,20 +1,19 @@
 -- Loops that write, and what a safe circuit's certificate is written of.
-use Rattle.std.proofs.Common.{◌≡◌, ℕ, zero, suc, ◌+◌, ◌-◌, ◌<◌, ◌≤◌, nat_lt, false, true, List, [], ◌∷◌, ◌++◌, length, map, take, drop, get_or, slice_get, Some, refl, sym, ◌∙◌, ap, subst, arith, inl, inr, append_assoc, length-append, add-one, drop-cons}
+use Rattle.std.proofs.Common.{◌≡◌, ℕ, zero, suc, ◌+◌, ◌<◌, ◌≤◌, nat_lt, false, true, List, [], ◌∷◌, ◌++◌, length, map, take, drop, get_or, slice_get, Some, refl, sym, ◌∙◌, ap, subst, arith, inl, inr, append_assoc, length-append, add-one, drop-cons}
 use Rattle.std.specs.List.{All}
 use Rattle.std.specs.Option.{option_map}
 use Rattle.std.proofs.lemmas.Bool.{cases_Bool, lt-ltb, ltb-true}
-use Rattle.std.proofs.lemmas.List.{take_more, take_all, map_push, append-nil, length-map}
+use Rattle.std.proofs.lemmas.List.{take_more, take_all, map_push, length-map}
 use Rattle.std.proofs.lemmas.List.Elements.{All-append, All-cons, All-nil}
 use Rattle.std.proofs.lemmas.Option.{slice_get-map, same_Some, slice_get_within}
 use Rattle.lemma_checker.specs.Chains.{ReachesEmpty}
 use Rattle.lemma_checker.specs.Checker.{link}
 use Rattle.lemma_checker.proofs.ListLemmas.{get_either}
-use Rattle.gate_graph.specs.declared.circuits.Circuit.{Circuit}
 use Rattle.unroll_cnf.specs.declared.latch_literal.LatchLiteral.{LatchLiteral}
 use Rattle.unroll_cnf.specs.Latches.{AreApart}
 use Rattle.unroll_cnf.specs.Queries.{base_clauses, step_clauses, keep_clauses}
 use Rattle.k_induction.specs.declared.verdict.SafeCircuit.{SafeCircuit}
-use Rattle.cert_text.specs.Reading.{Link, Parts, query_clauses}
+use Rattle.cert_text.specs.Reading.{Link, query_clauses}
 use Rattle.cert_text.specs.Lines.{due_after}
 use Rattle.cert_text.specs.Text.{chain_line, query_lines, head_lines, text_of_lines}
 use Rattle.cert_text.specs.Laws.{IsSmall, IsProof}

@@ -1,7 +1,7 @@
 -- Lines as they are written: what reading them gives, and where the text of them is cut.
-use Rattle.std.proofs.Common.{◌≡◌, ℕ, zero, suc, ◌+◌, ◌-◌, ◌^◌, ◌<◌, ◌≤◌, ◌==◌, nat_lt, nat_le, Bool, true, false, ◌&&◌, if◌then◌else◌, Option, Some, None, option_map, codes, List, [], ◌∷◌, ◌++◌, length, map, take, get_or, refl, sym, ◌∙◌, ap, subst, arith, inl, inr, length-append, ne_eqb}
+use Rattle.std.proofs.Common.{◌≡◌, ℕ, suc, ◌+◌, ◌-◌, ◌^◌, ◌<◌, ◌≤◌, ◌==◌, nat_lt, nat_le, Bool, true, false, if◌then◌else◌, Option, Some, None, option_map, codes, List, [], ◌∷◌, ◌++◌, length, map, take, get_or, refl, sym, ◌∙◌, ap, arith, inl, inr, length-append, ne_eqb}
 use Rattle.std.specs.Option.{option_and_then}
-use Rattle.std.specs.List.{All, list_all, slice_split}
+use Rattle.std.specs.List.{All, list_all}
 use Rattle.std.specs.Fmt.{decimal}
 use Rattle.std.specs.Str.{bytes_eq}
 use Rattle.std.proofs.lemmas.Bool.{cases_Bool, lt-ltb, ltb-true, leb-true, and_parts, and_from}
@@ -9,12 +9,12 @@ use Rattle.std.proofs.lemmas.Fmt.{decimal_nonempty}
 use Rattle.std.proofs.lemmas.List.{append-nil}
 use Rattle.std.proofs.lemmas.List.Folds.{list_all-append}
 use Rattle.std.proofs.lemmas.List.Elements.{All-nil, All-cons}
-use Rattle.std.proofs.lemmas.List.Splits.{slice_split_at, slice_split_none}
+use Rattle.std.proofs.lemmas.List.Splits.{slice_split_at}
 use Rattle.std.proofs.lemmas.Slice.Eq.{bytes_eq-Decides}
 use Rattle.unroll_cnf.specs.declared.latch_literal.LatchLiteral.{LatchLiteral}
-use Rattle.unroll_cnf.specs.Latches.{AreApart, IsOfLatches}
+use Rattle.unroll_cnf.specs.Latches.{AreApart}
 use Rattle.cert_text.specs.Numbers.{is_digit, number_of}
-use Rattle.cert_text.specs.Lines.{pieces_of, lines_of, tail_of, words_of, each_of, number_after, literal_of, if_apart, are_apart, clause_words, clause_of, is_slash, before_slash, with_pivots, chain_words, chain_of, due_after}
+use Rattle.cert_text.specs.Lines.{pieces_of, lines_of, tail_of, words_of, each_of, number_after, literal_of, if_apart, clause_words, clause_of, is_slash, before_slash, with_pivots, chain_words, chain_of, due_after}
 use Rattle.cert_text.specs.Reading.{Link}
 use Rattle.cert_text.specs.Laws.{IsSmall}
 use Rattle.cert_text.specs.Text.{literal_word, spaced, clause_line, chain_line, text_of_lines}

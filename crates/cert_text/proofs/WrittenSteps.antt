@@ -1,6 +1,6 @@
 -- Reading line by line what was written, up to its acceptance.
-use Rattle.std.proofs.Common.{◌≡◌, ℕ, zero, suc, ◌+◌, ◌-◌, ◌^◌, ◌<◌, ◌≤◌, nat_lt, nat_le, Bool, true, false, ◌&&◌, Option, Some, None, codes, List, [], ◌∷◌, ◌++◌, length, map, take, drop, get_or, slice_get, refl, sym, ◌∙◌, ap, subst, arith, inl, inr, append_assoc, length-append, length-take-le}
-use Rattle.std.specs.List.{All, list_all}
+use Rattle.std.proofs.Common.{◌≡◌, ℕ, suc, ◌+◌, ◌^◌, ◌<◌, ◌≤◌, Bool, true, Some, codes, List, [], ◌∷◌, ◌++◌, length, map, take, drop, get_or, slice_get, refl, sym, ◌∙◌, ap, subst, arith, inr, append_assoc, length-append, length-take-le}
+use Rattle.std.specs.List.{All}
 use Rattle.std.specs.Fmt.{decimal}
 use Rattle.std.specs.Str.{bytes_eq}
 use Rattle.std.proofs.Math.Logic.{∥∥₁_map, ∥∥₁_map₂}
@@ -10,16 +10,15 @@ use Rattle.std.proofs.lemmas.Option.{slice_get_within, slice_get-get_or, get_or_
 use Rattle.std.proofs.lemmas.Slice.Eq.{bytes_eq-Decides}
 use Rattle.lemma_checker.specs.declared.literal.Literal.{Literal}
 use Rattle.lemma_checker.specs.Clauses.{set_of}
-use Rattle.lemma_checker.specs.Chains.{chain_result, AreDerived, EmptyClause, ReachesEmpty}
+use Rattle.lemma_checker.specs.Chains.{chain_result, AreDerived, ReachesEmpty}
 use Rattle.lemma_checker.proofs.ListLemmas.{get_kept, get_right}
 use Rattle.gate_graph.specs.declared.circuits.Circuit.{Circuit}
 use Rattle.gate_graph.proofs.GraphLemmas.{latches_within}
 use Rattle.unroll_cnf.specs.declared.latch_literal.LatchLiteral.{LatchLiteral}
-use Rattle.unroll_cnf.specs.declared.limits.TheConstants.{MOST_EDGES, MOST_WEIGHT}
-use Rattle.unroll_cnf.specs.Latches.{AreApart, IsOfLatches, AreOfLatches, weight}
-use Rattle.cert_text.specs.Lines.{lines_of, tail_of, chain_of, due_after}
+use Rattle.unroll_cnf.specs.Latches.{AreApart, IsOfLatches, weight}
+use Rattle.cert_text.specs.Lines.{chain_of, due_after}
 use Rattle.cert_text.specs.Reading.{State, HeaderDue, BoundDue, CountDue, ClausesDue, ChainsDue, Ended, Goes, Gives, next_of, Accepted, Link, Parts, Resolves, IsCertificate, query_clauses, closed}
-use Rattle.cert_text.specs.Text.{clause_line, chain_line, query_lines, head_lines, text_of_lines, cert_text}
+use Rattle.cert_text.specs.Text.{clause_line, chain_line, query_lines, head_lines, cert_text}
 use Rattle.cert_text.specs.Laws.{IsSmall, IsProof}
 use Rattle.cert_text.proofs.ReadLemmas.{due_go, header_due, keep_due, bound_go, bound_within, count_go, clause_go, chain_go, close_go, closed_more, closed_last}
 use Rattle.cert_text.proofs.WrittenLines.{AreLow, are_lines, is_line, are_lines-append, lines_written, tail_written, named_number, named_line, clause_written, clause_is_line, chain_written, chain_is_line, due_no_chain, due_is_line}

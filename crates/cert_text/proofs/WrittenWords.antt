@@ -1,18 +1,16 @@
 -- Words as they are written: what reading them gives, and where a line of them is cut.
-use Rattle.std.proofs.Common.{◌≡◌, ℕ, zero, suc, ◌+◌, ◌-◌, ◌*◌, ◌/◌, ◌%◌, ◌^◌, ◌<◌, ◌≤◌, ◌==◌, min, nat_lt, nat_le, slice_index, Bool, true, false, not, ◌&&◌, if◌then◌else◌, Option, Some, None, option_map, codes, List, [], ◌∷◌, ◌++◌, length, map, get_or, slice_get, refl, sym, ◌∙◌, ap, subst, arith, inl, inr, append_assoc, length-append, ne_eqb, eq-eqb}
+use Rattle.std.proofs.Common.{◌≡◌, ℕ, zero, suc, ◌+◌, ◌-◌, ◌*◌, ◌%◌, ◌^◌, ◌<◌, ◌≤◌, ◌==◌, min, nat_lt, nat_le, slice_index, Bool, true, false, ◌&&◌, if◌then◌else◌, Option, Some, option_map, codes, List, [], ◌∷◌, ◌++◌, length, map, get_or, slice_get, refl, sym, ◌∙◌, ap, arith, inl, inr, append_assoc, ne_eqb}
 use Rattle.std.specs.Option.{option_and_then}
-use Rattle.std.specs.List.{All, list_all, list_any, slice_split}
+use Rattle.std.specs.List.{All, list_all, list_any}
 use Rattle.std.specs.Fmt.{decimal}
-use Rattle.std.specs.Str.{bytes_eq}
 use Rattle.std.proofs.lemmas.Bool.{cases_Bool, lt-ltb, le-leb, ltb-true, leb-true, eqb-true, and_parts, and_from}
 use Rattle.std.proofs.lemmas.Fmt.{decimal_by_steps, decimal_nonempty, decimal_digit, first_decimal}
 use Rattle.std.proofs.lemmas.List.{append-nil}
 use Rattle.std.proofs.lemmas.List.Folds.{list_all-append}
 use Rattle.std.proofs.lemmas.List.Elements.{All-nil, All-cons}
 use Rattle.std.proofs.lemmas.List.Splits.{slice_split_at, slice_split_none}
-use Rattle.std.proofs.lemmas.Slice.Eq.{bytes_eq-Decides}
 use Rattle.unroll_cnf.specs.declared.latch_literal.LatchLiteral.{LatchLiteral}
-use Rattle.unroll_cnf.specs.Latches.{AreApart, IsOfLatches}
+use Rattle.unroll_cnf.specs.Latches.{AreApart}
 use Rattle.cert_text.specs.Numbers.{is_digit, value_from, is_plain, number_of}
 use Rattle.cert_text.specs.Lines.{words_of, each_of, latch_of, literal_of, code_of, are_apart}
 use Rattle.cert_text.specs.Text.{literal_word, spaced}

@@ -3,7 +3,6 @@ use Rattle.std.specs.Prelude.{◌≡◌, ℕ, ◌+◌, ◌^◌, ◌<◌, ◌≤�
 use Rattle.std.specs.List.{All}
 use Rattle.lemma_checker.specs.Chains.{ReachesEmpty}
 use Rattle.gate_graph.specs.declared.circuits.Circuit.{Circuit}
-use Rattle.unroll_cnf.specs.declared.latch_literal.LatchLiteral.{LatchLiteral}
 use Rattle.unroll_cnf.specs.declared.limits.TheConstants.{MOST_EDGES}
 use Rattle.unroll_cnf.specs.Latches.{AreApart}
 use Rattle.invariant_miner.specs.Thinned.{IsAskable}

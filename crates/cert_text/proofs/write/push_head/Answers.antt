@@ -1,6 +1,6 @@
-use Rattle.std.proofs.Common.{[], ◌∷◌, ◌++◌, codes, map, length, ap, ◌∙◌}
+use Rattle.std.proofs.Common.{[], ◌∷◌, ◌++◌, codes, map, length}
 use Rattle.std.specs.Fmt.{decimal}
-use Rattle.cert_text.specs.Text.{clause_line, text_of_lines}
+use Rattle.cert_text.specs.Text.{clause_line}
 use Rattle.cert_text.proofs.WriteLemmas.{behind}
 use Rattle.cert_text.proofs.write.push_head.Goals as goal
 

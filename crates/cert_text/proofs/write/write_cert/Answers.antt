@@ -1,12 +1,9 @@
-use Rattle.std.proofs.Common.{◌≡◌, ◌+◌, [], ◌∷◌, ◌++◌, List, map, ap, ◌∙◌, sym, subst}
-use Rattle.std.specs.List.{All}
+use Rattle.std.proofs.Common.{map, ◌∙◌, sym, subst}
 use Rattle.std.proofs.lemmas.List.{length-map}
-use Rattle.unroll_cnf.specs.Latches.{AreApart}
 use Rattle.lemma_checker.specs.Checker.{link}
 use Rattle.cert_text.specs.Accepting.{parts_of}
-use Rattle.cert_text.specs.Laws.{IsSmall}
 use Rattle.cert_text.specs.Reading.{IsCertificate}
-use Rattle.cert_text.specs.Text.{query_lines, head_lines, text_of_lines, cert_text}
+use Rattle.cert_text.specs.Text.{cert_text}
 use Rattle.cert_text.proofs.WriteLemmas.{whole_text, safe_proof, base_links}
 use Rattle.cert_text.proofs.WrittenSteps.{written_accepted}
 use Rattle.cert_text.proofs.write.write_cert.Goals as goal
