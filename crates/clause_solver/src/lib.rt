@@ -4,6 +4,7 @@
 pub mod analysis;
 pub mod answer;
 pub mod ends;
+pub mod leading;
 pub mod order;
 pub mod plan;
 pub mod search;

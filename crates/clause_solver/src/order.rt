@@ -1,6 +1,7 @@
 //! The order in which variables are chosen, their last values, and when the search starts again: this
 //! guides the search, and nothing rests on it.
 
+use crate::leading::Leading;
 use crate::plan::Plan;
 use lemma_checker::literal::Literal;
 use lemma_checker::resolver::is_marked;
@@ -15,7 +16,7 @@ const LIMIT: u64 = 0x4_0000_0000_0000;
 const RUN: u32 = 800;
 
 /// A heap of the variables by activity, with the place of each, counted from 1; their activities and
-/// their last values; and the plan of the next lemma.
+/// their last values; those that are chosen first; and the plan of the next lemma.
 #[derive(Debug, Drop)]
 pub struct Order {
     activities: Vec<u64>,
@@ -25,6 +26,8 @@ pub struct Order {
     pub plan: Plan,
     step: u64,
     runs: Runs,
+    leading: Leading,
+    last: u32,
 }
 
 /// The lengths of the runs between restarts: 1, 1, 2, 1, 1, 2, 4 and so on, by Knuth's rule.
@@ -55,7 +58,7 @@ impl Runs {
 
 impl Order {
     /// All activities alike.
-    pub fn new(alloc: Global, vars: u32) -> Result<Order, AllocError> {
+    pub fn new(alloc: Global, vars: u32, leading: Leading) -> Result<Order, AllocError> {
         let size = vars as usize + 1;
         let mut activities = Vec::new(alloc);
         activities.resize(size, 0)?;
@@ -81,6 +84,8 @@ impl Order {
                 length: 1,
                 lemmas: 0,
             },
+            leading,
+            last: vars,
         })
     }
 
@@ -227,8 +232,12 @@ impl Order {
         }
     }
 
-    /// The literal to choose next: of the most active variable without a value, with its last sign.
+    /// The literal to choose next: a leading variable, else the most active one without a value, with
+    /// its last sign.
     pub fn next(&mut self, values: &[bool]) -> Literal {
+        if let Some(literal) = self.leading.literal(self.last, values) {
+            return literal;
+        }
         for _ in 0..self.heap.len() {
             let Some(variable) = self.pop() else {
                 break;

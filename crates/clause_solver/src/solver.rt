@@ -15,6 +15,7 @@ ghost use Rattle.clause_solver.specs.Solver.{all_of, ArePairOrOne, IsReady, Turn
 use crate::analysis::{Analysis, Stop, analyze};
 use crate::answer::Solved;
 use crate::ends::{model, refute, to_bottom};
+use crate::leading::Leading;
 use crate::order::Order;
 use crate::plan::Plan;
 use crate::search::descend;
@@ -220,9 +221,13 @@ fn rounds(
     Ok(solved)
 }
 
-/// Finds values that satisfy the formula, or chains that refute it; it gives up after `budget`
-/// lemmas.
-pub fn solve(alloc: Global, formula: Formula, budget: u32) -> Result<Solved, AllocError>
+/// As [`solve`]; these variables are chosen before all others.
+pub fn solve_leading(
+    alloc: Global,
+    formula: Formula,
+    leading: Leading,
+    budget: u32,
+) -> Result<Solved, AllocError>
     requires some { 1 ≤ budget }
     requires few { length formula.clauses + budget < 2 ^ 31 }
     ensures answer { IfOk result (λ s. SolvedIs s formula budget) }
@@ -234,7 +239,7 @@ pub fn solve(alloc: Global, formula: Formula, budget: u32) -> Result<Solved, All
 {
     let vars = formula.vars;
     let mut trail = Trail::new(alloc, vars)?;
-    let mut order = Order::new(alloc, vars)?;
+    let mut order = Order::new(alloc, vars, leading)?;
     let mut seen = Vec::new(alloc);
     seen.resize(2 * vars as usize + 2, false)?;
     let mut touched = Vec::new(alloc);
@@ -251,4 +256,19 @@ pub fn solve(alloc: Global, formula: Formula, budget: u32) -> Result<Solved, All
         budget,
     )?;
     Ok(solved)
+}
+
+/// Finds values that satisfy the formula, or chains that refute it; it gives up after `budget`
+/// lemmas.
+pub fn solve(alloc: Global, formula: Formula, budget: u32) -> Result<Solved, AllocError>
+    requires some { 1 ≤ budget }
+    requires few { length formula.clauses + budget < 2 ^ 31 }
+    ensures answer { IfOk result (λ s. SolvedIs s formula budget) }
+    ensures same_formula { IfOk result (λ s. IsAboutFormula s formula) }
+    ensures spent_full { IfOk result (λ s. IfSpent s (λ l. IsFull l budget)) }
+    ensures spent_new { IfOk result (λ s. IfSpent s (λ l. AreNew l.formula.clauses l.added)) }
+    ensures spent_no_conflict { IfOk result (λ s. IfSpent s (λ l. DoesNotConflict (all_of l) (λ _. false))) }
+    ensures spent_not_small { IfOk result (λ s. IfSpent s (λ l. budget < 3 ^ l.formula.vars)) }
+{
+    solve_leading(alloc, formula, Leading::none(), budget)
 }

@@ -7,6 +7,7 @@ pub mod RowLemmas
 pub mod ColumnLemmas
 pub mod ListedLemmas
 pub mod KeptLemmas
+pub mod SiftLemmas
 pub mod ThinLemmas
 pub mod LawLemmas
 pub mod AskableLemmas

@@ -99,30 +99,32 @@ rows_equal rows m n = rows_and rows (λ s. at s m || not (at s n)) (λ s. not (a
 pub rows_opposite : (rows : List (List ℕ)) (m n : ℕ) → (in_all_rows rows (λ s. at s m || at s n) && in_all_rows rows (λ s. not (at s m) || not (at s n))) ≡ in_all_rows rows (λ s. same_value (at s m) (not (at s n)))
 rows_opposite rows m n = rows_and rows (λ s. at s m || at s n) (λ s. not (at s m) || not (at s n)) ∙ rows_same rows _ _ (λ s. opposite_parts (at s m) (at s n))
 
--- one row by its words: `word` has the runs with `live` 1 in which neither literal holds
-violated : (l a b : Bool) → (l && not (a || b)) ≡ false → (not l || (a || b)) ≡ true
-violated true true b h = refl
-violated true false true h = refl
-violated true false false h = sym h
-violated false a b h = refl
+-- the runs that fail: `word` has those with p in which q does not hold
+violated : (l a : Bool) → (l && not a) ≡ false → (not l || a) ≡ true
+violated true true h = refl
+violated true false h = sym h
+violated false a h = refl
 
-met : (l a b : Bool) → (not l || (a || b)) ≡ true → (l && not (a || b)) ≡ false
-met true true b h = refl
-met true false true h = refl
-met true false false h = sym h
-met false a b h = refl
+met : (l a : Bool) → (not l || a) ≡ true → (l && not a) ≡ false
+met true true h = refl
+met true false h = sym h
+met false a h = refl
 
-pub row_by_word : (row : List ℕ) (x y : LatchLiteral) (word : ℕ) → word < 2 ^ 64 → ((r : ℕ) → r < 64 → bit r word ≡ (at (lane r row) 0 && not (holds (lane r row) x || holds (lane r row) y))) → eqb word 0 ≡ in_row row (λ s. holds s x || holds s y)
-unfolding in_row
-row_by_word row x y word small bits =
-    let p : ℕ → Bool = λ r. not (at (lane r row) 0) || (holds (lane r row) x || holds (lane r row) y) in
+pub clear_by_word : (p q : ℕ → Bool) (word : ℕ) → word < 2 ^ 64 → ((r : ℕ) → r < 64 → bit r word ≡ (p r && not (q r))) → eqb word 0 ≡ all_below 64 (λ r. not (p r) || q r)
+clear_by_word p q word small bits =
+    let each : ℕ → Bool = λ r. not (p r) || q r in
     elim (cases_eq word 0) [
       | inl z ↦
           let none : (r : ℕ) → r < 64 → bit r word ≡ false = λ r lt. ap (bit r) z ∙ bit_zero r in
-          eq-eqb word 0 z ∙ sym (below_true 64 p (λ r lt. violated (at (lane r row) 0) (holds (lane r row) x) (holds (lane r row) y) (sym (bits r lt) ∙ none r lt)))
+          eq-eqb word 0 z ∙ sym (below_true 64 each (λ r lt. violated (p r) (q r) (sym (bits r lt) ∙ none r lt)))
       | inr away ↦
-          ne_eqb word 0 away ∙ sym (false_from_ne_true (all_below 64 p) (λ e. away (zero_from_bits word small (λ r lt. bits r lt ∙ met (at (lane r row) 0) (holds (lane r row) x) (holds (lane r row) y) (below_each 64 p e r lt)))))
+          ne_eqb word 0 away ∙ sym (false_from_ne_true (all_below 64 each) (λ e. away (zero_from_bits word small (λ r lt. bits r lt ∙ met (p r) (q r) (below_each 64 each e r lt)))))
     ]
+
+-- one row by its words: `word` has the runs with `live` 1 in which neither literal holds
+pub row_by_word : (row : List ℕ) (x y : LatchLiteral) (word : ℕ) → word < 2 ^ 64 → ((r : ℕ) → r < 64 → bit r word ≡ (at (lane r row) 0 && not (holds (lane r row) x || holds (lane r row) y))) → eqb word 0 ≡ in_row row (λ s. holds s x || holds s y)
+unfolding in_row
+row_by_word row x y word small bits = clear_by_word (λ r. at (lane r row) 0) (λ r. holds (lane r row) x || holds (lane r row) y) word small bits
 
 pub word_bits : (row : List ℕ) (x y : LatchLiteral) (a b r : ℕ) → bit_or a b < 2 ^ 64 → r < 64 → bit r a ≡ holds (lane r row) x → bit r b ≡ holds (lane r row) y → bit r (bit_and (slice_index row 0) (bit_not w64 (bit_or a b))) ≡ (at (lane r row) 0 && not (holds (lane r row) x || holds (lane r row) y))
 word_bits row x y a b r small lt ea eb =

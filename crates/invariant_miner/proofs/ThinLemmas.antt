@@ -2,6 +2,7 @@
 use Rattle.std.proofs.Common.{◌≡◌, ℕ, zero, suc, ◌+◌, ◌<◌, ◌≤◌, Bool, true, false, List, [], ◌∷◌, ◌++◌, length, Some, slice_get, get_or, refl, ap, sym, ◌∙◌, subst, inl, inr, arith, true≢false, ◌==◌, ◌^◌}
 use Rattle.std.specs.List.{filter}
 use Rattle.std.proofs.lemmas.Bool.{or_left, or_right}
+use Rattle.std.proofs.lemmas.List.{length-map}
 use Rattle.std.proofs.lemmas.List.Folds.{list_any-append}
 use Rattle.lemma_checker.specs.declared.literal.Literal.{Literal}
 use Rattle.lemma_checker.specs.declared.lemmas.Lemmas.{Lemmas}
@@ -20,8 +21,8 @@ use Rattle.unroll_cnf.specs.Queries.{run_clauses, keep_clauses}
 use Rattle.unroll_cnf.specs.Meaning.{IsStoodFor}
 use Rattle.unroll_cnf.proofs.QueryLemmas.{keep_run}
 use Rattle.unroll_cnf.proofs.SetLemmas.{IsUnmet, unmet_of}
-use Rattle.invariant_miner.specs.Kept.{IsClosed}
-use Rattle.invariant_miner.proofs.KeptLemmas.{filter_less}
+use Rattle.invariant_miner.specs.Kept.{IsClosed, IsAbove}
+use Rattle.invariant_miner.proofs.KeptLemmas.{filter_less, above_all, above_drop}
 use Rattle.invariant_miner.specs.Thinned.{LeavesSet, IsSpentOn, IsAskable}
 
 -- where no assignment satisfies the keep query, each next state meets each clause
@@ -119,6 +120,10 @@ askable_list c none one two three d e f p q r s a b g small =
     let long_two : weight two ≡ weight one + (1 + length e) = ap weight r ∙ weight_push one e in
     subst (IsAskable c) (sym s) (askable_push c two f second g (omega arith))
 
--- what is left by a state that is given otherwise
-pub left_by : (state other : List Bool) (current left : List (List LatchLiteral)) → left ≡ filter (meets state) current → state ≡ other → left ≡ filter (meets other) current
-left_by state other current left e same = e ∙ ap (λ (z : List Bool). filter (meets z) current) same
+-- a state after an edge has a value for each latch, and what it meets of the set has each closed set
+pub leaves_length : (c : Circuit) (set : List (List LatchLiteral)) (next : List Bool) → LeavesSet c set next → length next ≡ length c.latches.items
+unfolding next_state
+leaves_length c set next l = ap length l.is ∙ length-map c.latches.items _
+
+pub leaves_above : (c : Circuit) (set left : List (List LatchLiteral)) (next : List Bool) → LeavesSet c set next → left ≡ filter (meets next) set → IsAbove c set left
+leaves_above c set left next l e = above_drop c set set left l.start l.input (above_all c set) l.meets (e ∙ ap (λ (z : List Bool). filter (meets z) set) l.is)

@@ -4,5 +4,6 @@ pub mod Samples
 pub mod Candidates
 pub mod Columns
 pub mod Kept
+pub mod Sifted
 pub mod Thinned
 pub mod Laws

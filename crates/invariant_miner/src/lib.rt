@@ -11,6 +11,7 @@ pub mod laws;
 mod rows;
 mod samples;
 pub mod set;
+mod sift;
 pub mod thin;
 pub mod thinned;
 

@@ -31,14 +31,14 @@ pub(crate) fn negated(latch: u32) -> LatchLiteral
 }
 
 /// The word of a latch in a row, 0 past its end.
-fn word_of(row: &[u64], latch: u32) -> u64
+pub(crate) fn word_of(row: &[u64], latch: u32) -> u64
     ensures { result ≡ slice_index row.now latch }
 {
     row.get(latch as usize).copied().unwrap_or(0)
 }
 
 /// The runs in which the literal holds.
-fn literal_word(row: &[u64], literal: LatchLiteral) -> u64
+pub(crate) fn literal_word(row: &[u64], literal: LatchLiteral) -> u64
     ensures bits { (r : ℕ) → r < 64 → bit r result ≡ holds (lane r row.now) literal }
     ensures small { result < 2 ^ 64 }
 {

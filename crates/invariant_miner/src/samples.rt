@@ -115,7 +115,7 @@ fn next_row(alloc: Global, latches: &[Latch], table: &[u64]) -> Result<Vec<u64>,
 }
 
 /// One edge of 64 runs: the latches after it.
-fn step(
+pub(crate) fn step(
     alloc: Global,
     circuit: &Circuit,
     rng: &mut Xoshiro256PlusPlus,

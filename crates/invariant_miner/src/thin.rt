@@ -1,6 +1,6 @@
 //! Thinning a list of clauses to those that are kept.
 
-ghost use Rattle.std.specs.Prelude.{◌≡◌, ◌+◌, ◌^◌, ◌<◌, ◌≤◌, [], length, map, slice_index_or, IfOk};
+ghost use Rattle.std.specs.Prelude.{◌≡◌, ◌+◌, ◌^◌, ◌<◌, ◌≤◌, [], length, map, slice_index_or, IfOk, OnOk};
 ghost use Rattle.gate_graph.specs.Runs.{next_state};
 ghost use Rattle.std.specs.List.{filter};
 ghost use Rattle.lemma_checker.specs.Chains.{ReachesEmpty};
@@ -9,14 +9,16 @@ ghost use Rattle.unroll_cnf.specs.Latches.{meets, AreOfLatches, weight};
 ghost use Rattle.unroll_cnf.specs.Queries.{keep_clauses};
 ghost use Rattle.unroll_cnf.specs.Runs.{IsKeepEdge};
 ghost use Rattle.unroll_cnf.specs.Meaning.{edges_of, HasSizes};
-ghost use Rattle.invariant_miner.specs.Kept.{IsGreatestClosed};
+ghost use Rattle.invariant_miner.specs.Kept.{IsAbove, IsGreatestClosed};
 ghost use Rattle.invariant_miner.specs.Thinned.{AskedIs, LeavesSet, IsInductive, IsAskable, IsMiningSpent, IfKept, IfMiningSpent};
 
 use crate::asked::Asked;
 use crate::set::InductiveSet;
+use crate::sift::sift;
 use crate::thinned::Thinned;
 use clause_solver::answer::Solved;
-use clause_solver::solver::solve;
+use clause_solver::leading::Leading;
+use clause_solver::solver::solve_leading;
 use gate_graph::Circuit;
 use lemma_checker::answer::Satisfied;
 use std::alloc::{AllocError, Global};
@@ -53,11 +55,12 @@ fn left_state(
     Ok(next)
 }
 
-/// Whether every edge keeps the set.
+/// Whether every edge keeps the set. Edges that break the clause at this place are looked for first.
 fn ask(
     alloc: Global,
     circuit: &Circuit,
     set: &[LatchClause],
+    place: u32,
     budget: u32,
 ) -> Result<Asked, AllocError>
     requires some { 1 ≤ budget }
@@ -66,7 +69,9 @@ fn ask(
     ensures { IfOk result (AskedIs circuit.now set.now budget) }
 {
     let query = keep_query(alloc, circuit, set)?;
-    match solve(alloc, query, budget)? {
+    let first = circuit.graph.size().saturating_add(1);
+    let next = first.saturating_add(place);
+    match solve_leading(alloc, query, Leading { first, next }, budget)? {
         Solved::Unsat(refutation) => Ok(Asked::Closed(refutation.chains())),
         Solved::Spent(lemmas) => Ok(Asked::Spent(lemmas)),
         Solved::Sat(model) => {
@@ -76,11 +81,40 @@ fn ask(
     }
 }
 
+/// The place of the first clause that the state doesn't meet, from which the next search goes on.
+fn first_unmet(clauses: &[LatchClause], state: &[bool]) -> u32 {
+    let mut place = 0u32;
+    for clause in clauses {
+        if !clause.meets(state) {
+            return place;
+        }
+        place = place.saturating_add(1);
+    }
+    0
+}
+
 /// Drops the clauses that the state doesn't meet.
 fn keep_met(clauses: &mut Vec<LatchClause>, state: &[bool])
     ensures { clauses.new.items ≡ filter (meets state.now) clauses.old.items }
 {
     clauses.retain(|clause| clause.meets(state));
+}
+
+/// Drops the clauses that a state after an edge doesn't meet, and others that edges from states beside
+/// it break.
+fn narrow(
+    alloc: Global,
+    circuit: &Circuit,
+    clauses: &mut Vec<LatchClause>,
+    state: &[bool],
+) -> Result<(), AllocError>
+    requires leaves { LeavesSet circuit.now clauses.old.items state.now }
+    ensures above { OnOk result (IsAbove circuit.now clauses.old.items clauses.new.items) }
+    ensures fewer { OnOk result (length clauses.new.items < length clauses.old.items) }
+{
+    keep_met(clauses, state);
+    sift(alloc, circuit, clauses, state)?;
+    Ok(())
 }
 
 /// The greatest closed set of clauses of the list, in its order, with the chains that show it closed.
@@ -100,8 +134,11 @@ pub fn thin(
     ensures mining_spent { IfOk result (λ t. IfMiningSpent t (IsMiningSpent circuit.now list.items budget)) }
 {
     let mut current = list;
-    loop {
-        match ask(alloc, circuit, current.as_slice(), budget)? {
+    let start = vec![in alloc; false; circuit.latches.len()]?;
+    sift(alloc, circuit, &mut current, start.as_slice())?;
+    let mut place = 0;
+    'thinning: loop {
+        match ask(alloc, circuit, current.as_slice(), place, budget)? {
             Asked::Closed(chains) => {
                 return Ok(Thinned::Kept(InductiveSet {
                     clauses: current,
@@ -109,7 +146,10 @@ pub fn thin(
                 }));
             }
             Asked::Spent(lemmas) => return Ok(Thinned::MiningSpent(lemmas)),
-            Asked::Leaves(state) => keep_met(&mut current, state.as_slice()),
+            Asked::Leaves(state) => {
+                place = first_unmet(current.as_slice(), state.as_slice());
+                narrow(alloc, circuit, &mut current, state.as_slice())?;
+            }
         }
     }
 }

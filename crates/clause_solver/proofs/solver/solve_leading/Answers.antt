@@ -5,7 +5,7 @@ use Rattle.watch_lists.proofs.StartLemmas.{trail_start, start_fits}
 use Rattle.clause_solver.specs.Solver.{SolvedIs}
 use Rattle.clause_solver.proofs.SolverLemmas.{none_new}
 use Rattle.clause_solver.proofs.AnswerLemmas.{solved_same, about_of, full_of, news_of, quiet_of, small_of}
-use Rattle.clause_solver.proofs.solver.solve.Goals as goal
+use Rattle.clause_solver.proofs.solver.solve_leading.Goals as goal
 
 pub rounds-requires-clause-ready : goal.rounds-requires-clause-ready
 rounds-requires-clause-ready c =
