@@ -111,7 +111,8 @@ fn step_back(
         Some(new) => count_of_level(new, levels, trail.starts.len()),
         None => 0,
     };
-    *open = open.saturating_sub(1).saturating_add(more);
+    // the literal of the pivot in the reason is a new one of the level too, and goes with its opposite
+    *open = open.saturating_sub(2).saturating_add(more);
     Ok(None)
 }
 

@@ -13,7 +13,7 @@ use watch_lists::trail::Trail;
 const LIMIT: u64 = 0x4_0000_0000_0000;
 
 /// How many lemmas the shortest run between two restarts has.
-const RUN: u32 = 800;
+const RUN: u32 = 400;
 
 /// A heap of the variables by activity, with the place of each, counted from 1; their activities and
 /// their last values; those that are chosen first; and the plan of the next lemma.
@@ -197,11 +197,12 @@ impl Order {
     /// Raises the activities of the variables that the last walk touched, of these literals', where
     /// they got their values past the bottom level. Those that only stand in the reasons of literals
     /// that were resolved away after it are left as they are.
-    pub fn bump(&mut self, touched: &[Literal]) {
+    pub fn bump(&mut self, touched: &[Literal], values: &[bool]) {
         let literals = touched.get(..self.plan.analyzed).unwrap_or(touched);
         for literal in literals {
             let variable = literal.variable();
-            if self.plan.level(*literal) > 0 {
+            let denied = !is_marked(values, literal.0 as usize);
+            if denied && self.plan.level(*literal) > 0 {
                 if let Some(slot) = self.activities.get_mut(variable as usize) {
                     *slot = slot.saturating_add(self.step);
                 }
@@ -211,7 +212,7 @@ impl Order {
                 }
             }
         }
-        self.step = self.step.saturating_add(self.step / 50);
+        self.step = self.step.saturating_add(self.step / 20);
         if self.step > LIMIT {
             self.shrink();
         }

@@ -8,12 +8,8 @@ use std::alloc::{AllocError, Global};
 use std::vec::Vec;
 use watch_lists::trail::Trail;
 
-/// How many places of the trail one level's search goes down at most.
+/// How many reasons the search behind one literal looks at, at most.
 const REACH: u32 = 1_000;
-
-/// How many literals of one level are left as they are: where there are more, one is to stand for
-/// all of them. With fewer the lemmas get shorter still, but the search needs more of them.
-const FEW: usize = 4;
 
 /// By variable, the level at which it got its value and its place in the trail; the places of the
 /// literals to resolve away, the highest first; how many literals the walk itself touched; and what
@@ -25,9 +21,10 @@ pub struct Plan {
     pub analyzed: usize,
     spots: Vec<usize>,
     left: Vec<usize>,
-    block: Vec<usize>,
+    stack: Vec<usize>,
     inside: Vec<bool>,
     group: Vec<u32>,
+    present: Vec<bool>,
 }
 
 /// The clause that gave the literal at a place of the trail, if one did.
@@ -56,15 +53,18 @@ impl Plan {
         spots.resize(size, 0)?;
         let mut inside = Vec::new(alloc);
         inside.resize(size, false)?;
+        let mut present = Vec::new(alloc);
+        present.resize(size, false)?;
         Ok(Plan {
             levels,
             drops: Vec::new(alloc),
             analyzed: 0,
             spots,
             left: Vec::new(alloc),
-            block: Vec::new(alloc),
+            stack: Vec::new(alloc),
             inside,
             group: Vec::new(alloc),
+            present,
         })
     }
 
@@ -107,24 +107,6 @@ impl Plan {
         Ok(())
     }
 
-    /// Takes the places of the highest level that is left, the highest place first.
-    fn take_block(&mut self, trail: &Trail, level: u32) -> Result<(), AllocError> {
-        self.block.clear();
-        for _ in 0..self.left.len() {
-            let Some(place) = self.left.last().copied() else {
-                break;
-            };
-            if self.level(literal_at(trail, place)) != level {
-                break;
-            }
-            let _ = self.left.pop();
-            if self.block.last().copied() != Some(place) {
-                self.block.push(place)?;
-            }
-        }
-        Ok(())
-    }
-
     /// Puts a variable into the group: whether it was not there.
     fn enter(&mut self, literal: Literal) -> Result<bool, AllocError> {
         let variable = literal.variable();
@@ -138,141 +120,94 @@ impl Plan {
         Ok(true)
     }
 
-    /// Empties the group.
-    fn leave(&mut self) {
-        for variable in self.group.as_slice() {
+    /// Takes those out of the group that came in last, so that so many are left.
+    fn leave(&mut self, left: usize) {
+        for variable in self.group.iter().skip(left) {
             if let Some(slot) = self.inside.get_mut(*variable as usize) {
                 *slot = false;
             }
         }
-        self.group.clear();
+        self.group.truncate(left);
     }
 
-    /// Puts the level's literals of a reason into the group: how many were not there. None where
-    /// another literal of the reason isn't marked, or there is no reason.
-    fn widen(
+    /// Notes whether marked literals stand at the levels of those that are left.
+    fn note_levels(&mut self, trail: &Trail, present: bool) {
+        for place in self.left.as_slice() {
+            let level = self
+                .levels
+                .get(literal_at(trail, *place).variable() as usize);
+            let level = level.copied().unwrap_or(0);
+            if let Some(slot) = self.present.get_mut(level as usize) {
+                *slot = present;
+            }
+        }
+    }
+
+    /// Whether a marked literal stands at the level.
+    fn has_level(&self, level: u32) -> bool {
+        self.present.get(level as usize).copied().unwrap_or(false)
+    }
+
+    /// Looks at the reason at a place: its literals that are neither marked nor of the bottom level nor
+    /// entered are entered and put on the stack. Whether each of them may yet be implied by the marked.
+    fn open_reason(
         &mut self,
-        clause: Option<&[Literal]>,
-        own: Literal,
-        seen: &[bool],
-        level: u32,
-    ) -> Result<Option<usize>, AllocError> {
-        let Some(literals) = clause else {
-            return Ok(None);
-        };
-        let mut more = 0usize;
-        for literal in literals {
-            let at = self.level(*literal);
-            if at == 0 || literal.0 == own.0 {
-                continue;
-            }
-            if at == level {
-                if self.enter(*literal)? {
-                    more = more.saturating_add(1);
-                }
-            } else if !is_marked(seen, literal.0 as usize) {
-                return Ok(None);
-            }
-        }
-        Ok(Some(more))
-    }
-
-    /// Goes down the level from a place until one literal of the group is left: whether that happens.
-    fn unite(
-        &mut self,
-        formula: &Clauses,
-        added: &Clauses,
-        trail: &Trail,
-        seen: &[bool],
-        level: u32,
-        top: usize,
-    ) -> Result<bool, AllocError> {
-        let mut open = self.group.len();
-        let mut place = top;
-        for _ in 0..REACH {
-            let literal = literal_at(trail, place);
-            if self.inside.get(literal.variable() as usize).copied() == Some(true) {
-                if open <= 1 {
-                    return Ok(true);
-                }
-                let clause = reason_at(formula, added, trail, place);
-                let Some(more) = self.widen(clause, literal, seen, level)? else {
-                    return Ok(false);
-                };
-                open = (open - 1).saturating_add(more);
-                self.drops.push(place)?;
-            }
-            if place == 0 {
-                return Ok(false);
-            }
-            place -= 1;
-        }
-        Ok(false)
-    }
-
-    /// Plans to leave one literal of the block: whether there is a way.
-    fn try_one(
-        &mut self,
-        formula: &Clauses,
-        added: &Clauses,
-        trail: &Trail,
-        seen: &[bool],
-        level: u32,
-        top: usize,
-    ) -> Result<bool, AllocError> {
-        let before = self.drops.len();
-        for i in 0..self.block.len() {
-            if let Some(place) = self.block.get(i).copied() {
-                let _ = self.enter(literal_at(trail, place))?;
-            }
-        }
-        let found = self.unite(formula, added, trail, seen, level, top)?;
-        self.leave();
-        if !found {
-            self.drops.truncate(before);
-        }
-        Ok(found)
-    }
-
-    /// Whether all other literals of the reason at a place are marked or of the bottom level.
-    fn is_spare(
-        &self,
         formula: &Clauses,
         added: &Clauses,
         trail: &Trail,
         seen: &[bool],
         place: usize,
-    ) -> bool {
+    ) -> Result<bool, AllocError> {
         let own = literal_at(trail, place);
-        match reason_at(formula, added, trail, place) {
-            Some(clause) => clause.iter().all(|x| {
-                x.0 == own.0 || is_marked(seen, x.0 as usize) || self.level(*x) == 0
-            }),
-            None => false,
+        let Some(clause) = reason_at(formula, added, trail, place) else {
+            return Ok(false);
+        };
+        for literal in clause {
+            let level = self.level(*literal);
+            if level == 0 || literal.0 == own.0 || is_marked(seen, literal.0 as usize) {
+                continue;
+            }
+            if !self.has_level(level) {
+                return Ok(false);
+            }
+            if self.enter(*literal)? {
+                let spot = self.spots.get(literal.variable() as usize).copied();
+                self.stack.push(spot.unwrap_or(0))?;
+            }
         }
+        Ok(true)
     }
 
-    /// Plans to leave out the literals of the block that the others imply.
-    fn thin(
+    /// Plans to resolve away the literal at a place, with all that its reasons bring in, where the
+    /// other marked literals imply it.
+    fn try_implied(
         &mut self,
         formula: &Clauses,
         added: &Clauses,
         trail: &Trail,
         seen: &[bool],
+        start: usize,
     ) -> Result<(), AllocError> {
-        for i in 0..self.block.len() {
-            if let Some(place) = self.block.get(i).copied() {
-                if self.is_spare(formula, added, trail, seen, place) {
-                    self.drops.push(place)?;
-                }
+        let before = self.group.len();
+        let drops = self.drops.len();
+        self.stack.clear();
+        self.stack.push(start)?;
+        for _ in 0..REACH {
+            let Some(place) = self.stack.pop() else {
+                return Ok(());
+            };
+            if !self.open_reason(formula, added, trail, seen, place)? {
+                break;
             }
+            self.drops.push(place)?;
         }
+        self.drops.truncate(drops);
+        self.leave(before);
         Ok(())
     }
 
-    /// Plans which of the marked literals that stand before `low` to resolve away: of each level with
-    /// many of them all but one, if no literal of another level comes in by that, else those that the
-    /// others imply.
+    /// Plans which of the marked literals that stand before `low` to resolve away: those that the
+    /// others imply, by their reasons and the reasons of these.
     pub fn make(
         &mut self,
         formula: &Clauses,
@@ -285,17 +220,16 @@ impl Plan {
         self.analyzed = touched.len();
         self.drops.clear();
         self.collect(seen, touched, low)?;
-        for _ in 0..self.left.len() {
-            let Some(top) = self.left.last().copied() else {
-                break;
-            };
-            let level = self.level(literal_at(trail, top));
-            self.take_block(trail, level)?;
-            let many = self.block.len() > FEW;
-            if !many || !self.try_one(formula, added, trail, seen, level, top)? {
-                self.thin(formula, added, trail, seen)?;
+        self.note_levels(trail, true);
+        for i in 0..self.left.len() {
+            if let Some(place) = self.left.get(i).copied() {
+                self.try_implied(formula, added, trail, seen, place)?;
             }
         }
+        self.leave(0);
+        self.note_levels(trail, false);
+        self.drops.sort()?;
+        self.drops.reverse();
         Ok(())
     }
 }

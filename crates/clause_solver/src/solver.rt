@@ -141,7 +141,7 @@ fn take_turn(
     };
     let plan = &mut order.plan;
     let analysis = settle(alloc, lemmas, trail, conflict, seen, touched, plan)?;
-    order.bump(touched.as_slice());
+    order.bump(touched.as_slice(), trail.values.as_slice());
     release(order, trail, &analysis)?;
     let turn = finish(lemmas, watches, trail, analysis)?;
     Ok(turn)
