@@ -1,0 +1,5 @@
+pub mod EachPlace
+pub mod Remainders
+pub mod SignLemmas
+pub mod LogarithmLemmas
+pub mod ShiftLemmas

@@ -1,0 +1,9 @@
+use Rattle.std.proofs.Common.{◌∙◌, ap, length, ◌&&◌}
+use Rattle.bit_words.proofs.EachPlace.{and_of_pairs, length_of_each_place}
+use Rattle.bit_words.proofs.bitwise.and_of.Goals as goal
+
+pub returns-clause-value : goal.returns-clause-value
+returns-clause-value c = c.from.ensures ∙ (c.in_ok-places.ensures ∙ and_of_pairs c.args.a.now c.args.b.now)
+
+pub returns-clause-long : goal.returns-clause-long
+returns-clause-long c = λ same. ap length (c.from.ensures ∙ (c.in_ok-places.ensures ∙ and_of_pairs c.args.a.now c.args.b.now)) ∙ length_of_each_place (λ x y. x && y) c.args.a.now c.args.b.now same
