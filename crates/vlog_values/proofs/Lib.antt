@@ -1,0 +1,4 @@
+pub mod NoBits
+pub mod OutcomeLemmas
+pub mod Inside
+pub mod PartsLemmas
