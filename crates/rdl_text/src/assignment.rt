@@ -20,8 +20,8 @@ use rdl_tree::tree::{
 use std::alloc::{AllocError, Global};
 use std::vec::Vec;
 
-// Whether the property is assigned by this name.
-fn is_property(property: Property, prop: &RdlProp) -> bool
+/// Whether the property is assigned by this name.
+pub fn is_property(property: Property, prop: &RdlProp) -> bool
     ensures { result ≡ spec.is_property property prop.now }
 {
     match row_of(prop.name.text.as_bytes()) {

@@ -52,8 +52,8 @@ fn lone(index: &Option<RdlIndex>, more: &[RdlNextStep]) -> bool
     }
 }
 
-// The word that the value is.
-fn word_of(value: &RdlValue) -> Option<&RdlToken>
+/// The word that the value is: a path of one name without an index.
+pub fn word_of(value: &RdlValue) -> Option<&RdlToken>
     ensures { option_map (λ t. t.now) result ≡ spec.word_of value.now }
 {
     match value {
@@ -255,7 +255,8 @@ fn takes_none(form: Form) -> bool
     matches!(form, Form::True | Form::Flag | Form::FlagOrBit)
 }
 
-fn takes_assigned(referable: bool, form: Form, value: &Option<RdlAssigned>) -> bool
+/// Whether a property of this form takes the value, a reference only where one may stand.
+pub fn takes_assigned(referable: bool, form: Form, value: &Option<RdlAssigned>) -> bool
     ensures { result ≡ spec.takes_assigned referable form value.now }
 {
     match value {

@@ -2,10 +2,10 @@
 //! properties are assigned, and the form of their values.
 #![tactic(auto)]
 
-mod assignment;
-mod form;
+pub mod assignment;
+pub mod form;
 pub mod instance;
-mod names;
+pub mod names;
 pub mod property;
 pub mod reference;
 pub mod scope;

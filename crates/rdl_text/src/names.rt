@@ -327,8 +327,8 @@ pub fn note_misnamed<'a>(
     }
 }
 
-// Whether the item can be the description's top.
-fn can_be_top(item: &RdlItem) -> bool
+/// Whether the item can be the description's top: an address map with a name.
+pub fn can_be_top(item: &RdlItem) -> bool
     ensures { result ≡ spec.can_be_top (out-RdlItem item.now) }
 {
     match item {

@@ -1,0 +1,4 @@
+pub mod Firsts
+pub mod Unlike
+pub mod Refusals
+pub mod OneAnswer

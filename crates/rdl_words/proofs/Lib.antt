@@ -1,0 +1,4 @@
+pub mod Swaps
+pub mod Orders
+pub mod Sorted
+pub mod Firsts

@@ -1,0 +1,4 @@
+pub mod Numbers
+pub mod Spots
+pub mod Clashes
+pub mod Words
