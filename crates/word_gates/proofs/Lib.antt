@@ -1,4 +1,5 @@
 pub mod BitLemmas
+pub mod ConstantLemmas
 pub mod ExactLemmas
 pub mod WordLemmas
 pub mod PlaceLemmas

@@ -1,6 +1,6 @@
 -- Which graph each operator builds: its wires, and the nodes with its gates, as a function of the nodes before. A gate that
 -- is there is taken (`and_of`). Of a word, the gates of a place stand behind those of the places before it.
-use Rattle.std.specs.Prelude.{ℕ, ◌+◌, ◌-◌, ◌*◌, ◌%◌, ◌==◌, Bool, true, false, if◌then◌else◌, List, [], ◌∷◌, ◌++◌, length, get_or, take, drop, map, replicate, min}
+use Rattle.std.specs.Prelude.{ℕ, ◌+◌, ◌-◌, ◌*◌, ◌/◌, ◌%◌, ◌==◌, Bool, true, false, if◌then◌else◌, List, [], ◌∷◌, ◌++◌, length, get_or, take, drop, map, replicate, min}
 use Rattle.std.specs.List.{fold}
 use Rattle.std.specs.Simd.Lanes.{zip2}
 use Rattle.gate_graph.specs.declared.wires.Wire.{Wire}
@@ -186,3 +186,17 @@ unfoldable pub product_made : List Node → List Wire → List Wire → List Wir
 product_made ns a b =
     let made = carried (row_step_made a) ns (replicate (length a) off, 0) b in
     (made.0.0, made.1)
+
+-- a word beside a number: each place as the number's bit has it, and nothing left of the number
+abbrev pub as_bit : Wire → Bool → Wire
+as_bit w bit = if bit then w else inverse w
+
+abbrev pub number_step_made : List Node → Wire × ℕ → Wire → (Wire × ℕ) × List Node
+number_step_made ns s w =
+    let made = and_of ns s.0 (as_bit w (s.1 % 2 == 1)) in
+    ((made.0, s.1 / 2), made.1)
+
+unfoldable pub number_made : List Node → List Wire → ℕ → Wire × List Node
+number_made ns a n =
+    let made = carried number_step_made ns (on, n) a in
+    (if made.0.1 == 0 then made.0.0 else off, made.1)

@@ -18,6 +18,7 @@ macro_rules! each_lane {
 
 mod bitwise;
 mod choices;
+mod constants;
 mod moves;
 mod places;
 mod products;
@@ -26,10 +27,11 @@ mod shifts;
 mod sums;
 mod words;
 
-pub use choices::{choose, pick};
+pub use choices::{between, choose, masked, pick};
+pub use constants::{is_number, only_if, same_as};
 pub use places::{carry_wire, inverted, or_wire, pick_wire, sum_wire, xor_wire};
 pub use products::mul;
-pub use reductions::{all, any, equal, parity};
+pub use reductions::{all, any, any_wire, equal, parity};
 pub use shifts::{shift_left, shift_right, shift_signed};
-pub use sums::{add, less, less_signed, negate, sub};
+pub use sums::{add, inverted_word, less, less_signed, negate, repeated, sub};
 pub use words::{and, or, xnor, xor};

@@ -1,0 +1,3 @@
+pub mod FieldStep
+pub mod Graphs
+pub mod Laws
