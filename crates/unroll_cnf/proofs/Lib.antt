@@ -2,6 +2,7 @@ pub mod EachLemmas
 pub mod LiteralLemmas
 pub mod PlaceLemmas
 pub mod FrameLemmas
+pub mod ConeLemmas
 pub mod RunLemmas
 pub mod SetLemmas
 pub mod QueryLemmas

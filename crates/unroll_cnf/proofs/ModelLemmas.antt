@@ -1,5 +1,5 @@
 -- The run that an assignment gives, as it is read and as it is meant; queries put together.
-use Rattle.std.proofs.Common.{◌≡◌, ℕ, zero, suc, ◌+◌, ◌≤◌, Bool, List, [], ◌∷◌, ◌++◌, length, map, refl, ap, sym, ◌∙◌, subst, inl, inr, arith, add-one, append_assoc}
+use Rattle.std.proofs.Common.{◌≡◌, ℕ, zero, suc, ◌+◌, ◌≤◌, Bool, List, [], ◌∷◌, ◌++◌, length, map, refl, ap, sym, ◌∙◌, subst, arith, add-one, append_assoc}
 use Rattle.std.specs.List.{All}
 use Rattle.std.proofs.lemmas.List.{map_push, length-map}
 use Rattle.std.proofs.lemmas.List.Elements.{All-nil, All-push}
@@ -11,9 +11,9 @@ use Rattle.unroll_cnf.specs.declared.run.CircuitRun.{CircuitRun}
 use Rattle.unroll_cnf.specs.Latches.{AreOfLatches}
 use Rattle.unroll_cnf.specs.Runs.{IsBaseRun, IsStepRun, IsKeepEdge}
 use Rattle.unroll_cnf.specs.Queries.{offset, latch_places, input_places, base_clauses, step_clauses, keep_clauses}
-use Rattle.unroll_cnf.specs.Meaning.{shifted, frame, StandsFor, first_state, inputs_at, run_inputs, edges_of, HasSizes, IsQueryOf}
+use Rattle.unroll_cnf.specs.Meaning.{shifted, frame, first_state, inputs_at, run_inputs, edges_of, HasSizes}
 use Rattle.unroll_cnf.proofs.PlaceLemmas.{length-latch_places, length-input_places}
-use Rattle.unroll_cnf.proofs.QueryLemmas.{base_stands, base_is, step_stands, step_is, keep_stands, keep_is}
+use Rattle.unroll_cnf.proofs.QueryLemmas.{base_is, step_is, keep_is}
 
 pub joined_three : (a b d e x y z : List (List Literal)) → a ≡ [] → b ≡ a ++ x → d ≡ b ++ y → e ≡ d ++ z → e ≡ x ++ (y ++ z)
 joined_three a b d e x y z p q r s = s ∙ rw (r, q, p) (append_assoc x y z)
@@ -41,15 +41,6 @@ inputs_pushed items c v t first places list new x pushed before p q r =
 -- what holds of the run that the values give holds of the one that was read
 pub at_run : (P : List Bool → List (List Bool) → Type 0) (s s' : List Bool) (xs xs' : List (List Bool)) → s' ≡ s → xs' ≡ xs → P s xs → P s' xs'
 at_run P s s' xs xs' p q h = subst (λ (z : List Bool). P z xs') (sym p) (subst (λ (z : List (List Bool)). P s z) (sym q) h)
-
-pub query_stands : (c : Circuit) (v : ℕ → Bool) (m : ℕ) (clauses : List (List Literal)) → 1 ≤ m → IsQueryOf c m clauses → Solves v clauses → StandsFor c v (first_state c v) (run_inputs c v m)
-query_stands c v m clauses some query solves = elim query [
-  | inl base ↦ base_stands c v m some (subst (Solves v) base solves)
-  | inr other ↦ elim other [
-    | inl step ↦ subst (λ k. StandsFor c v (first_state c v) (run_inputs c v k)) (let e : step.good + 1 ≡ m = omega (arith, step.edges) in e) (step_stands c v step.set step.good (subst (Solves v) step.is solves))
-    | inr keep ↦ subst (λ k. StandsFor c v (first_state c v) (run_inputs c v k)) (sym keep.edges) (keep_stands c v keep.set (subst (Solves v) keep.is solves))
-  ]
-]
 
 pub base_run_is : (c : Circuit) (v : ℕ → Bool) (m : ℕ) (clauses : List (List Literal)) → 1 ≤ m → clauses ≡ base_clauses c m → Solves v clauses → IsBaseRun c m (first_state c v) (run_inputs c v m)
 base_run_is c v m clauses some is solves = base_is c v m some (subst (Solves v) is solves)

@@ -18,10 +18,10 @@ use Rattle.gate_graph.specs.Gates.{IsLow}
 use Rattle.gate_graph.proofs.GraphLemmas.{node_low}
 use Rattle.unroll_cnf.specs.declared.latch_literal.LatchLiteral.{LatchLiteral}
 use Rattle.unroll_cnf.specs.Latches.{not_live, is_not_live, weakened, IsOfLatches, AreOfLatches, weight}
-use Rattle.unroll_cnf.specs.Queries.{plain, negated, denied, signed, literal_at, offset, gate_clauses, same_clauses, next_clauses, latch_clauses, first_clauses, starting, start_clauses, edge_clauses, link_clauses, starts_clauses, run_clauses, good_clauses, base_clauses, latch_places, latch_literal, set_clause, step_clauses, no_latch, next_literal, broken_clauses, all_broken, some_of, keep_clauses}
+use Rattle.unroll_cnf.specs.Queries.{plain, negated, denied, signed, literal_at, offset, within, base_cones, step_cones, keep_cones, gate_clauses, same_clauses, next_clauses, latch_clauses, first_clauses, starting, start_clauses, edge_clauses, link_clauses, starts_clauses, run_clauses, good_clauses, base_clauses, latch_places, latch_literal, set_clause, step_clauses, no_latch, next_literal, broken_clauses, all_broken, some_of, keep_clauses}
 use Rattle.unroll_cnf.proofs.EachLemmas.{Each, each_nil, each_cons, each_one, each_append, each_map, node_all, node_count}
 use Rattle.unroll_cnf.proofs.LiteralLemmas.{opposite_variable}
-use Rattle.unroll_cnf.proofs.FrameLemmas.{graph_of, next_of}
+use Rattle.unroll_cnf.proofs.FrameLemmas.{graph_of, next_of, within_from}
 use Rattle.unroll_cnf.proofs.SetLemmas.{weakened_latches}
 use Rattle.unroll_cnf.proofs.DistinctLemmas.{place_below}
 
@@ -80,8 +80,8 @@ gate_over vars k i (node.And a b) low p q =
     (each_cons (IsOver vars) _ _ (over_two vars (negated (i + k)) (literal_at k b) here right)
     (each_one (IsOver vars) _ (over_cons vars (plain (i + k)) (denied (literal_at k a) ∷ denied (literal_at k b) ∷ []) (plain_in vars (i + k) (omega arith) q) (over_two vars (denied (literal_at k a)) (denied (literal_at k b)) (denied_in vars (literal_at k a) left) (denied_in vars (literal_at k b) right)))))
 
-edge_over : (c : Circuit) (t vars : ℕ) → (t + 1) * length c.graph ≤ vars → Each (IsOver vars) (edge_clauses c t)
-edge_over c t vars le = node_all (IsOver vars) (gate_clauses (offset c t)) c.graph (λ j n h. gate_over vars (offset c t) j n (node_low c.graph j n (graph_of c) h) (omega arith) (omega (arith, slice_get_within c.graph j n h)))
+edge_over : (c : Circuit) (set : ℕ → Bool) (t vars : ℕ) → (t + 1) * length c.graph ≤ vars → Each (IsOver vars) (edge_clauses c set t)
+edge_over c set t vars le = node_all (IsOver vars) (within set (gate_clauses (offset c t))) c.graph (λ j n h. within_from (IsOver vars) (set j) (gate_clauses (offset c t) j n) (λ m. gate_over vars (offset c t) j n (node_low c.graph j n (graph_of c) h) (omega arith) (omega (arith, slice_get_within c.graph j n h))))
 
 same_over : (vars n : ℕ) (l : Literal) → 1 ≤ n → n ≤ vars → InRange vars l → Each (IsOver vars) (same_clauses n l)
 same_over vars n l p q r =
@@ -100,8 +100,8 @@ link_node_over c t vars le j (node.Latch n) h =
 link_node_over c t vars le j (node.Input n) h = each_nil (IsOver vars)
 link_node_over c t vars le j (node.And a b) h = each_nil (IsOver vars)
 
-link_over : (c : Circuit) (t vars : ℕ) → (t + 2) * length c.graph ≤ vars → Each (IsOver vars) (link_clauses c t)
-link_over c t vars le = node_all (IsOver vars) (latch_clauses c.latches.items (offset c t) (offset c (t + 1))) c.graph (link_node_over c t vars le)
+link_over : (c : Circuit) (set : ℕ → Bool) (t vars : ℕ) → (t + 2) * length c.graph ≤ vars → Each (IsOver vars) (link_clauses c set t)
+link_over c set t vars le = node_all (IsOver vars) (within set (latch_clauses c.latches.items (offset c t) (offset c (t + 1)))) c.graph (λ j n h. within_from (IsOver vars) (set j) (latch_clauses c.latches.items (offset c t) (offset c (t + 1)) j n) (λ m. link_node_over c t vars le j n h))
 
 first_over : (vars n : ℕ) (s : Start) → 1 ≤ n → n ≤ vars → Each (IsOver vars) (first_clauses n s)
 first_over vars n start.Zero p q = each_one (IsOver vars) (negated n ∷ []) (over_one vars (negated n) (negated_in vars n p q))
@@ -124,14 +124,14 @@ starts_over : (c : Circuit) (vars : ℕ) → length c.graph ≤ vars → Each (I
 starts_over c vars le = node_all (IsOver vars) (start_clauses c.latches.items (offset c 0)) c.graph (start_node_over c vars le)
 
 -- runs
-run_over : (c : Circuit) (t vars : ℕ) → (t + 1) * length c.graph ≤ vars → Each (IsOver vars) (run_clauses c t)
-run_over c zero vars le = edge_over c 0 vars le
-run_over c (suc t) vars le =
-    each_append (IsOver vars) (run_clauses c t) (link_clauses c t ++ edge_clauses c (t + 1))
-    (run_over c t vars (omega arith))
-    (each_append (IsOver vars) (link_clauses c t) (edge_clauses c (t + 1))
-    (link_over c t vars (omega arith))
-    (edge_over c (t + 1) vars (omega arith)))
+run_over : (c : Circuit) (cones : ℕ → ℕ → Bool) (t vars : ℕ) → (t + 1) * length c.graph ≤ vars → Each (IsOver vars) (run_clauses c cones t)
+run_over c cones zero vars le = edge_over c (cones 0) 0 vars le
+run_over c cones (suc t) vars le =
+    each_append (IsOver vars) (run_clauses c cones t) (link_clauses c (cones (t + 1)) t ++ edge_clauses c (cones (t + 1)) (t + 1))
+    (run_over c cones t vars (omega arith))
+    (each_append (IsOver vars) (link_clauses c (cones (t + 1)) t) (edge_clauses c (cones (t + 1)) (t + 1))
+    (link_over c (cones (t + 1)) t vars (omega arith))
+    (edge_over c (cones (t + 1)) (t + 1) vars (omega arith)))
 
 bad_in : (c : Circuit) (t vars : ℕ) → (t + 1) * length c.graph ≤ vars → InRange vars (literal_at (offset c t) c.bad)
 bad_in c t vars le = wire_in vars (offset c t) (length c.graph) c.bad c.bad_of (omega arith) (omega arith)
@@ -156,10 +156,10 @@ base_over c k some =
     let vars : ℕ = k * length c.graph in
     let long : (k - 1 + 1) * length c.graph ≤ vars = omega (arith, edges_up k (length c.graph) some) in
     over_from_each vars _
-    (each_append (IsOver vars) (starts_clauses c) (run_clauses c (k - 1) ++ (literal_at (offset c (k - 1)) c.bad ∷ []) ∷ [])
+    (each_append (IsOver vars) (starts_clauses c) (run_clauses c (base_cones c k) (k - 1) ++ (literal_at (offset c (k - 1)) c.bad ∷ []) ∷ [])
     (starts_over c vars (nodes_up k (length c.graph) some))
-    (each_append (IsOver vars) (run_clauses c (k - 1)) ((literal_at (offset c (k - 1)) c.bad ∷ []) ∷ [])
-    (run_over c (k - 1) vars long)
+    (each_append (IsOver vars) (run_clauses c (base_cones c k) (k - 1)) ((literal_at (offset c (k - 1)) c.bad ∷ []) ∷ [])
+    (run_over c (base_cones c k) (k - 1) vars long)
     (each_one (IsOver vars) _ (over_one vars (literal_at (offset c (k - 1)) c.bad) (bad_in c (k - 1) vars long)))))
 
 -- sets
@@ -177,10 +177,10 @@ unfolding step_clauses
 step_over c set k of =
     let vars : ℕ = (k + 1) * length c.graph in
     over_from_each vars _
-    (each_append (IsOver vars) (map (set_clause c (offset c 0)) set) (run_clauses c k ++ (good_clauses c k ++ (literal_at (offset c k) c.bad ∷ []) ∷ []))
+    (each_append (IsOver vars) (map (set_clause c (offset c 0)) set) (run_clauses c (step_cones c k) k ++ (good_clauses c k ++ (literal_at (offset c k) c.bad ∷ []) ∷ []))
     (set_over c vars set (omega arith) of)
-    (each_append (IsOver vars) (run_clauses c k) (good_clauses c k ++ (literal_at (offset c k) c.bad ∷ []) ∷ [])
-    (run_over c k vars (omega arith))
+    (each_append (IsOver vars) (run_clauses c (step_cones c k) k) (good_clauses c k ++ (literal_at (offset c k) c.bad ∷ []) ∷ [])
+    (run_over c (step_cones c k) k vars (omega arith))
     (each_append (IsOver vars) (good_clauses c k) ((literal_at (offset c k) c.bad ∷ []) ∷ [])
     (good_over c k vars (omega arith))
     (each_one (IsOver vars) _ (over_one vars (literal_at (offset c k) c.bad) (bad_in c k vars (omega arith)))))))
@@ -213,8 +213,8 @@ unfolding keep_clauses
 keep_over c set of =
     let vars : ℕ = length c.graph + length set in
     over_from_each vars _
-    (each_append (IsOver vars) (run_clauses c 0) (map (set_clause c (offset c 0)) set ++ (all_broken c (offset c 0) (offset c 1) set ++ some_of (offset c 1) set ∷ []))
-    (run_over c 0 vars (omega arith))
+    (each_append (IsOver vars) (run_clauses c (keep_cones c set) 0) (map (set_clause c (offset c 0)) set ++ (all_broken c (offset c 0) (offset c 1) set ++ some_of (offset c 1) set ∷ []))
+    (run_over c (keep_cones c set) 0 vars (omega arith))
     (each_append (IsOver vars) (map (set_clause c (offset c 0)) set) (all_broken c (offset c 0) (offset c 1) set ++ some_of (offset c 1) set ∷ [])
     (set_over c vars set (omega arith) of)
     (each_append (IsOver vars) (all_broken c (offset c 0) (offset c 1) set) (some_of (offset c 1) set ∷ [])
@@ -253,18 +253,25 @@ start_count_of latches k i (node.Latch n) = starting_count (i + k) (slice_get la
 start_count_of latches k i (node.Input n) = omega arith
 start_count_of latches k i (node.And a b) = omega arith
 
-edge_count : (c : Circuit) (t : ℕ) → length (edge_clauses c t) ≤ 3 * length c.graph
-edge_count c t = node_count (gate_clauses (offset c t)) 3 (gate_count (offset c t)) 0 c.graph
+within_count : (set : ℕ → Bool) (f : ℕ → Node → List (List Literal)) (b : ℕ) → ((i : ℕ) (n : Node) → length (f i n) ≤ b) → (i : ℕ) (n : Node) → length (within set f i n) ≤ b
+within_count set f b few i n = cond_count (set i) (f i n) b (few i n)
+  where
+    cond_count : (s : Bool) (cs : List (List Literal)) (b : ℕ) → length cs ≤ b → length (cond s cs []) ≤ b
+    cond_count true cs b le = le
+    cond_count false cs b le = omega arith
 
-link_count : (c : Circuit) (t : ℕ) → length (link_clauses c t) ≤ 2 * length c.graph
-link_count c t = node_count (latch_clauses c.latches.items (offset c t) (offset c (t + 1))) 2 (latch_count_of c.latches.items (offset c t) (offset c (t + 1))) 0 c.graph
+edge_count : (c : Circuit) (set : ℕ → Bool) (t : ℕ) → length (edge_clauses c set t) ≤ 3 * length c.graph
+edge_count c set t = node_count (within set (gate_clauses (offset c t))) 3 (within_count set (gate_clauses (offset c t)) 3 (gate_count (offset c t))) 0 c.graph
+
+link_count : (c : Circuit) (set : ℕ → Bool) (t : ℕ) → length (link_clauses c set t) ≤ 2 * length c.graph
+link_count c set t = node_count (within set (latch_clauses c.latches.items (offset c t) (offset c (t + 1)))) 2 (within_count set (latch_clauses c.latches.items (offset c t) (offset c (t + 1))) 2 (latch_count_of c.latches.items (offset c t) (offset c (t + 1)))) 0 c.graph
 
 starts_count : (c : Circuit) → length (starts_clauses c) ≤ 1 * length c.graph
 starts_count c = node_count (start_clauses c.latches.items (offset c 0)) 1 (start_count_of c.latches.items (offset c 0)) 0 c.graph
 
-run_count : (c : Circuit) (t : ℕ) → length (run_clauses c t) ≤ 5 * ((t + 1) * length c.graph)
-run_count c zero = omega (arith, edge_count c 0)
-run_count c (suc t) = omega (arith, run_count c t, link_count c t, edge_count c (t + 1), length-append (run_clauses c t) (link_clauses c t ++ edge_clauses c (t + 1)), length-append (link_clauses c t) (edge_clauses c (t + 1)))
+run_count : (c : Circuit) (cones : ℕ → ℕ → Bool) (t : ℕ) → length (run_clauses c cones t) ≤ 5 * ((t + 1) * length c.graph)
+run_count c cones zero = omega (arith, edge_count c (cones 0) 0)
+run_count c cones (suc t) = omega (arith, run_count c cones t, link_count c (cones (t + 1)) t, edge_count c (cones (t + 1)) (t + 1), length-append (run_clauses c cones t) (link_clauses c (cones (t + 1)) t ++ edge_clauses c (cones (t + 1)) (t + 1)), length-append (link_clauses c (cones (t + 1)) t) (edge_clauses c (cones (t + 1)) (t + 1)))
 
 good_count : (c : Circuit) (k : ℕ) → length (good_clauses c k) ≡ k
 good_count c zero = refl
@@ -275,7 +282,7 @@ edges_bound c t le = mul-le-mul le c.few
 
 pub base_few : (c : Circuit) (k : ℕ) → 1 ≤ k → k ≤ 32 → length (base_clauses c k) < 2 ^ 30
 unfolding base_clauses
-base_few c k some le = omega (arith, c.few, starts_count c, run_count c (k - 1), edges_up k (length c.graph) some, edges_bound c k (omega arith), length-append (starts_clauses c) (run_clauses c (k - 1) ++ (literal_at (offset c (k - 1)) c.bad ∷ []) ∷ []), length-append (run_clauses c (k - 1)) ((literal_at (offset c (k - 1)) c.bad ∷ []) ∷ []))
+base_few c k some le = omega (arith, c.few, starts_count c, run_count c (base_cones c k) (k - 1), edges_up k (length c.graph) some, edges_bound c k (omega arith), length-append (starts_clauses c) (run_clauses c (base_cones c k) (k - 1) ++ (literal_at (offset c (k - 1)) c.bad ∷ []) ∷ []), length-append (run_clauses c (base_cones c k) (k - 1)) ((literal_at (offset c (k - 1)) c.bad ∷ []) ∷ []))
 
 pub set_few : (set : List (List LatchLiteral)) → length set ≤ weight set
 set_few [] = omega arith
@@ -283,7 +290,7 @@ set_few (d ∷ ds) = omega (arith, set_few ds)
 
 pub step_few : (c : Circuit) (set : List (List LatchLiteral)) (k : ℕ) → k ≤ 32 → weight set ≤ 2 ^ 28 → length (step_clauses c set k) < 2 ^ 30
 unfolding step_clauses
-step_few c set k le small = omega (arith, set_few set, run_count c k, good_count c k, edges_bound c (k + 1) (omega arith), length-map set (set_clause c (offset c 0)), length-append (map (set_clause c (offset c 0)) set) (run_clauses c k ++ (good_clauses c k ++ (literal_at (offset c k) c.bad ∷ []) ∷ [])), length-append (run_clauses c k) (good_clauses c k ++ (literal_at (offset c k) c.bad ∷ []) ∷ []), length-append (good_clauses c k) ((literal_at (offset c k) c.bad ∷ []) ∷ []))
+step_few c set k le small = omega (arith, set_few set, run_count c (step_cones c k) k, good_count c k, edges_bound c (k + 1) (omega arith), length-map set (set_clause c (offset c 0)), length-append (map (set_clause c (offset c 0)) set) (run_clauses c (step_cones c k) k ++ (good_clauses c k ++ (literal_at (offset c k) c.bad ∷ []) ∷ [])), length-append (run_clauses c (step_cones c k) k) (good_clauses c k ++ (literal_at (offset c k) c.bad ∷ []) ∷ []), length-append (good_clauses c k) ((literal_at (offset c k) c.bad ∷ []) ∷ []))
 
 weakened_few : (d : List LatchLiteral) (b : Bool) → length (cond b d (not_live ∷ d)) ≤ 1 + length d
 weakened_few d true = omega arith
@@ -299,4 +306,4 @@ all_broken_count c k y (d ∷ ds) = omega (arith, weakened_count d, length-map (
 
 pub keep_few : (c : Circuit) (set : List (List LatchLiteral)) → weight set ≤ 2 ^ 28 → length (keep_clauses c set) < 2 ^ 30
 unfolding keep_clauses
-keep_few c set small = omega (arith, c.few, set_few set, run_count c 0, all_broken_count c (offset c 0) (offset c 1) set, length-map set (set_clause c (offset c 0)), length-append (run_clauses c 0) (map (set_clause c (offset c 0)) set ++ (all_broken c (offset c 0) (offset c 1) set ++ some_of (offset c 1) set ∷ [])), length-append (map (set_clause c (offset c 0)) set) (all_broken c (offset c 0) (offset c 1) set ++ some_of (offset c 1) set ∷ []), length-append (all_broken c (offset c 0) (offset c 1) set) (some_of (offset c 1) set ∷ []))
+keep_few c set small = omega (arith, c.few, set_few set, run_count c (keep_cones c set) 0, all_broken_count c (offset c 0) (offset c 1) set, length-map set (set_clause c (offset c 0)), length-append (run_clauses c (keep_cones c set) 0) (map (set_clause c (offset c 0)) set ++ (all_broken c (offset c 0) (offset c 1) set ++ some_of (offset c 1) set ∷ [])), length-append (map (set_clause c (offset c 0)) set) (all_broken c (offset c 0) (offset c 1) set ++ some_of (offset c 1) set ∷ []), length-append (all_broken c (offset c 0) (offset c 1) set) (some_of (offset c 1) set ∷ []))

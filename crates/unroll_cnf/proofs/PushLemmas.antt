@@ -1,5 +1,5 @@
 -- Clauses that are pushed node by node, and clauses without a literal twice.
-use Rattle.std.proofs.Common.{◌≡◌, ◌≢◌, ℕ, zero, suc, ◌+◌, ◌<◌, ◌≤◌, false, ◌||◌, eqb, List, [], ◌∷◌, ◌++◌, length, take, drop, slice_get, Some, refl, ap, sym, ◌∙◌, subst, add-one, append_assoc}
+use Rattle.std.proofs.Common.{◌≡◌, ◌≢◌, ℕ, zero, suc, ◌+◌, ◌<◌, ◌≤◌, Bool, false, ◌||◌, eqb, List, [], ◌∷◌, ◌++◌, length, take, drop, slice_get, Some, refl, ap, sym, ◌∙◌, subst, add-one, append_assoc}
 use Rattle.std.proofs.lemmas.Bool.{ne_eqb}
 use Rattle.std.proofs.lemmas.List.{drop_more, drop_all, append-nil}
 use Rattle.std.proofs.lemmas.Option.{get_or_from_slice_get, slice_get_within}
@@ -22,13 +22,17 @@ pub pushed_all : (f : ℕ → Node → List (List Literal)) (i : ℕ) (ns : List
 pushed_all f i ns old all le so_far = sym (append-nil old) ∙ (ap (λ (z : List Node). old ++ by_node f i z) (sym (drop_all i ns le)) ∙ so_far)
 
 -- one edge more
-pub pushed_edge : (c : Circuit) (t : ℕ) (first old linked new : List (List Literal)) → old ≡ first ++ run_clauses c t → linked ≡ old ++ link_clauses c t → new ≡ linked ++ edge_clauses c (t + 1) → new ≡ first ++ run_clauses c (t + 1)
-pushed_edge c t first old linked new a b d =
-    d ∙ (ap (λ (z : List (List Literal)). z ++ edge_clauses c (t + 1)) (b ∙ ap (λ (z : List (List Literal)). z ++ link_clauses c t) a)
-    ∙ (ap (λ (z : List (List Literal)). z ++ edge_clauses c (t + 1)) (append_assoc first (run_clauses c t) (link_clauses c t))
-    ∙ (append_assoc first (run_clauses c t ++ link_clauses c t) (edge_clauses c (t + 1))
-    ∙ (ap (λ (z : List (List Literal)). first ++ z) (append_assoc (run_clauses c t) (link_clauses c t) (edge_clauses c (t + 1)))
-    ∙ ap (λ k. first ++ run_clauses c k) (sym (add-one t))))))
+pub pushed_edge : (c : Circuit) (cones : ℕ → ℕ → Bool) (t : ℕ) (set : ℕ → Bool) (first old linked new : List (List Literal)) → set ≡ cones (t + 1) → old ≡ first ++ run_clauses c cones t → linked ≡ old ++ link_clauses c set t → new ≡ linked ++ edge_clauses c set (t + 1) → new ≡ first ++ run_clauses c cones (t + 1)
+pushed_edge c cones t set first old linked new e a b d =
+    let links : List (List Literal) = link_clauses c (cones (t + 1)) t in
+    let edges : List (List Literal) = edge_clauses c (cones (t + 1)) (t + 1) in
+    let b' : linked ≡ old ++ links = b ∙ ap (λ (r : ℕ → Bool). old ++ link_clauses c r t) e in
+    let d' : new ≡ linked ++ edges = d ∙ ap (λ (r : ℕ → Bool). linked ++ edge_clauses c r (t + 1)) e in
+    d' ∙ (ap (λ (z : List (List Literal)). z ++ edges) (b' ∙ ap (λ (z : List (List Literal)). z ++ links) a)
+    ∙ (ap (λ (z : List (List Literal)). z ++ edges) (append_assoc first (run_clauses c cones t) links)
+    ∙ (append_assoc first (run_clauses c cones t ++ links) edges
+    ∙ (ap (λ (z : List (List Literal)). first ++ z) (append_assoc (run_clauses c cones t) links edges)
+    ∙ ap (λ k. first ++ run_clauses c cones k) (sym (add-one t))))))
 
 -- a clause of one, two or three literals
 pub distinct_one : (a : Literal) → AreDistinct (a ∷ [])

@@ -1,5 +1,5 @@
 -- Sets of latch clauses: their literals at an edge, and in the state after it.
-use Rattle.std.proofs.Common.{◌≡◌, ℕ, zero, suc, ◌+◌, ◌<◌, Bool, true, false, not, ◌||◌, eqb, cond, List, [], ◌∷◌, length, map, slice_get, get_or, Some, refl, ap, sym, ◌∙◌, subst, inl, inr, arith, true≢false}
+use Rattle.std.proofs.Common.{◌≡◌, ℕ, zero, suc, ◌+◌, ◌/◌, ◌<◌, Bool, true, false, not, ◌||◌, eqb, cond, List, [], ◌∷◌, length, map, slice_get, get_or, Some, refl, ap, sym, ◌∙◌, subst, inl, inr, arith, true≢false}
 use Rattle.std.specs.List.{list_any}
 use Rattle.std.proofs.lemmas.Bool.{eqb-true, and_parts, or_cases, or_left, or_right}
 use Rattle.std.proofs.lemmas.Option.{slice_get-get_or}
@@ -8,7 +8,7 @@ use Rattle.lemma_checker.specs.Clauses.{literal_true, clause_true}
 use Rattle.gate_graph.specs.declared.nodes.Node.TheVariants as node
 use Rattle.gate_graph.specs.declared.parts.Latch.{Latch}
 use Rattle.gate_graph.specs.declared.circuits.Circuit.{Circuit}
-use Rattle.gate_graph.specs.Values.{at, IsValuation}
+use Rattle.gate_graph.specs.Values.{at, value}
 use Rattle.gate_graph.specs.Latches.{StartsAtZero}
 use Rattle.gate_graph.specs.Runs.{next_state}
 use Rattle.unroll_cnf.specs.declared.latch_literal.LatchLiteral.{LatchLiteral}
@@ -18,7 +18,7 @@ use Rattle.unroll_cnf.specs.Meaning.{shifted}
 use Rattle.unroll_cnf.proofs.EachLemmas.{Each, IsTrueIn, each_nil, each_append, each_left, each_right, each_map, map_each}
 use Rattle.unroll_cnf.proofs.LiteralLemmas.{plain_value, negated_value, denied_value, signed_value, literal_value}
 use Rattle.unroll_cnf.proofs.PlaceLemmas.{latch_node, length-latch_places}
-use Rattle.unroll_cnf.proofs.FrameLemmas.{next_entry}
+use Rattle.unroll_cnf.proofs.FrameLemmas.{wire_same, next_entry}
 
 -- a test of a mapped list
 pub any_map : {X Y : Type 0} (p : Y → Bool) (q : X → Bool) (f : X → Y) (xs : List X) → ((i : ℕ) (x : X) → slice_get xs i ≡ Some x → p (f x) ≡ q x) → list_any p (map f xs) ≡ list_any q xs
@@ -71,35 +71,43 @@ pub weakened_latches : (c : Circuit) (d : List LatchLiteral) → IsOfLatches (le
 unfolding weakened
 weakened_latches c d of = weakened_of (length c.latches.items) d (list_any is_not_live d) (live_there c) of
 
+-- the latches at an edge whose first variable is k have the values of a state
+pub record HasState (c : Circuit) (v : ℕ → Bool) (k : ℕ) (s : List Bool) : Type 0 where
+  pub latch : (i n : ℕ) → slice_get c.graph i ≡ Some (node.Latch n) → shifted v k i ≡ at s n
+
 -- a latch literal at an edge
-pub latch_value : (c : Circuit) (v : ℕ → Bool) (k : ℕ) (s x : List Bool) (l : LatchLiteral) → IsValuation s x (shifted v k) c.graph → l.latch < length c.latches.items → literal_true v (latch_literal c k l).0 ≡ holds s l
+pub latch_value : (c : Circuit) (v : ℕ → Bool) (k : ℕ) (s : List Bool) (l : LatchLiteral) → HasState c v k s → l.latch < length c.latches.items → literal_true v (latch_literal c k l).0 ≡ holds s l
 unfolding latch_literal
-latch_value c v k s x l p lt =
+latch_value c v k s l p lt =
     let place : ℕ = get_or (latch_places 0 c.graph) l.latch 0 in
     let within : l.latch < length (latch_places 0 c.graph) = omega (arith, length-latch_places 0 c.graph, c.latched) in
     let here : slice_get c.graph place ≡ Some (node.Latch l.latch) = latch_node c.graph l.latch place c.counted (slice_get-get_or (latch_places 0 c.graph) l.latch 0 within) in
-    let value : literal_true v (plain (place + k)).0 ≡ at s l.latch = plain_value v (place + k) ∙ p.node place (node.Latch l.latch) here in
+    let value : literal_true v (plain (place + k)).0 ≡ at s l.latch = plain_value v (place + k) ∙ p.latch place l.latch here in
     signed_value v l.negated (plain (place + k)) ∙ ap (λ b. cond l.negated (not b) b) value
 
-pub set_clause_value : (c : Circuit) (v : ℕ → Bool) (k : ℕ) (s x : List Bool) (d : List LatchLiteral) → IsValuation s x (shifted v k) c.graph → IsOfLatches (length c.latches.items) d → clause_true v (set_clause c k d) ≡ meets s d
-set_clause_value c v k s x d p of =
+pub set_clause_value : (c : Circuit) (v : ℕ → Bool) (k : ℕ) (s : List Bool) (d : List LatchLiteral) → HasState c v k s → IsOfLatches (length c.latches.items) d → clause_true v (set_clause c k d) ≡ meets s d
+set_clause_value c v k s d p of =
     let wide : IsOfLatches (length c.latches.items) (weakened d) = weakened_latches c d of in
-    any_map (λ (m : Literal). literal_true v m.0) (holds s) (latch_literal c k) (weakened d) (λ i l is. latch_value c v k s x l p (wide.each i l is))
+    any_map (λ (m : Literal). literal_true v m.0) (holds s) (latch_literal c k) (weakened d) (λ i l is. latch_value c v k s l p (wide.each i l is))
     ∙ weakened_value s d
 
-pub set_to : (c : Circuit) (v : ℕ → Bool) (k : ℕ) (s x : List Bool) (set : List (List LatchLiteral)) → IsValuation s x (shifted v k) c.graph → AreOfLatches (length c.latches.items) set → Each (IsTrueIn v) (map (set_clause c k) set) → MeetsAll s set
-set_to c v k s x set p of e = record { each = λ i d is. sym (set_clause_value c v k s x d p (of.each i d is)) ∙ map_each (IsTrueIn v) (set_clause c k) set e i d is }
+pub set_to : (c : Circuit) (v : ℕ → Bool) (k : ℕ) (s : List Bool) (set : List (List LatchLiteral)) → HasState c v k s → AreOfLatches (length c.latches.items) set → Each (IsTrueIn v) (map (set_clause c k) set) → MeetsAll s set
+set_to c v k s set p of e = record { each = λ i d is. sym (set_clause_value c v k s d p (of.each i d is)) ∙ map_each (IsTrueIn v) (set_clause c k) set e i d is }
 
-pub set_from : (c : Circuit) (v : ℕ → Bool) (k : ℕ) (s x : List Bool) (set : List (List LatchLiteral)) → IsValuation s x (shifted v k) c.graph → AreOfLatches (length c.latches.items) set → MeetsAll s set → Each (IsTrueIn v) (map (set_clause c k) set)
-set_from c v k s x set p of m = each_map (IsTrueIn v) (set_clause c k) set (λ i d is. set_clause_value c v k s x d p (of.each i d is) ∙ m.each i d is)
+pub set_from : (c : Circuit) (v : ℕ → Bool) (k : ℕ) (s : List Bool) (set : List (List LatchLiteral)) → HasState c v k s → AreOfLatches (length c.latches.items) set → MeetsAll s set → Each (IsTrueIn v) (map (set_clause c k) set)
+set_from c v k s set p of m = each_map (IsTrueIn v) (set_clause c k) set (λ i d is. set_clause_value c v k s d p (of.each i d is) ∙ m.each i d is)
+
+-- the literals of a weakened clause at an edge have their values in the state after it
+pub record HasNext (c : Circuit) (v : ℕ → Bool) (k : ℕ) (s x : List Bool) (d : List LatchLiteral) : Type 0 where
+  pub each : (i : ℕ) (l : LatchLiteral) → slice_get (weakened d) i ≡ Some l → literal_true v (next_literal c k l).0 ≡ holds (next_state c s x) l
 
 -- a latch literal in the next state
-pub next_value : (c : Circuit) (v : ℕ → Bool) (k : ℕ) (s x : List Bool) (l : LatchLiteral) → IsValuation s x (shifted v k) c.graph → l.latch < length c.latches.items → literal_true v (next_literal c k l).0 ≡ holds (next_state c s x) l
+pub next_value : (c : Circuit) (v : ℕ → Bool) (k : ℕ) (s x : List Bool) (l : LatchLiteral) → l.latch < length c.latches.items → ((m : Latch) → slice_get c.latches.items l.latch ≡ Some m → shifted v k (m.next.0 / 2) ≡ value s x c.graph (m.next.0 / 2)) → literal_true v (next_literal c k l).0 ≡ holds (next_state c s x) l
 unfolding next_literal
-next_value c v k s x l p lt =
+next_value c v k s x l lt same =
     let latch : Latch = get_or c.latches.items l.latch no_latch in
     let here : slice_get c.latches.items l.latch ≡ Some latch = slice_get-get_or c.latches.items l.latch no_latch lt in
-    let value : literal_true v (literal_at k latch.next).0 ≡ at (next_state c s x) l.latch = literal_value v k latch.next ∙ sym (next_entry c s x (shifted v k) l.latch latch p here) in
+    let value : literal_true v (literal_at k latch.next).0 ≡ at (next_state c s x) l.latch = literal_value v k latch.next ∙ (wire_same (shifted v k) (value s x c.graph) latch.next (same latch here) ∙ sym (next_entry c s x l.latch latch here)) in
     signed_value v l.negated (literal_at k latch.next) ∙ ap (λ b. cond l.negated (not b) b) value
 
 -- a clause whose variable is true is broken
@@ -132,41 +140,39 @@ holds_none p (y ∷ xs) h (suc i) x is = holds_none p xs (or_false_right (p y) (
 broken_value : (c : Circuit) (v : ℕ → Bool) (k y : ℕ) (l : LatchLiteral) → clause_true v (negated y ∷ denied (next_literal c k l) ∷ []) ≡ (not (v y) || (not (literal_true v (next_literal c k l).0) || false))
 broken_value c v k y l = rw (negated_value v y, denied_value v (next_literal c k l)) refl
 
-pub broken_to : (c : Circuit) (v : ℕ → Bool) (k y : ℕ) (s x : List Bool) (d : List LatchLiteral) → IsValuation s x (shifted v k) c.graph → IsOfLatches (length c.latches.items) d → Each (IsTrueIn v) (broken_clauses c k y d) → v y ≡ true → meets (next_state c s x) d ≡ false
-broken_to c v k y s x d p of e named =
-    let wide : IsOfLatches (length c.latches.items) (weakened d) = weakened_latches c d of in
+pub broken_to : (c : Circuit) (v : ℕ → Bool) (k y : ℕ) (s x : List Bool) (d : List LatchLiteral) → HasNext c v k s x d → Each (IsTrueIn v) (broken_clauses c k y d) → v y ≡ true → meets (next_state c s x) d ≡ false
+broken_to c v k y s x d p e named =
     sym (weakened_value (next_state c s x) d)
     ∙ none_holds (holds (next_state c s x)) (weakened d) (λ i l is.
-    sym (next_value c v k s x l p (wide.each i l is))
+    sym (p.each i l is)
     ∙ not_or (v y) (literal_true v (next_literal c k l).0) (sym (broken_value c v k y l) ∙ map_each (IsTrueIn v) (λ (m : LatchLiteral). negated y ∷ denied (next_literal c k m) ∷ []) (weakened d) e i l is) named)
 
-pub broken_from : (c : Circuit) (v : ℕ → Bool) (k y : ℕ) (s x : List Bool) (d : List LatchLiteral) → IsValuation s x (shifted v k) c.graph → IsOfLatches (length c.latches.items) d → (v y ≡ true → meets (next_state c s x) d ≡ false) → Each (IsTrueIn v) (broken_clauses c k y d)
-broken_from c v k y s x d p of h =
-    let wide : IsOfLatches (length c.latches.items) (weakened d) = weakened_latches c d of in
+pub broken_from : (c : Circuit) (v : ℕ → Bool) (k y : ℕ) (s x : List Bool) (d : List LatchLiteral) → HasNext c v k s x d → (v y ≡ true → meets (next_state c s x) d ≡ false) → Each (IsTrueIn v) (broken_clauses c k y d)
+broken_from c v k y s x d p h =
     each_map (IsTrueIn v) (λ (m : LatchLiteral). negated y ∷ denied (next_literal c k m) ∷ []) (weakened d) (λ i l is.
     broken_value c v k y l
     ∙ or_not (v y) (literal_true v (next_literal c k l).0) (λ named.
-    next_value c v k s x l p (wide.each i l is)
+    p.each i l is
     ∙ holds_none (holds (next_state c s x)) (weakened d) (weakened_value (next_state c s x) d ∙ h named) i l is))
 
 -- all clauses of the set, each with its variable from y on
-pub all_broken_to : (c : Circuit) (v : ℕ → Bool) (k y : ℕ) (s x : List Bool) (set : List (List LatchLiteral)) → IsValuation s x (shifted v k) c.graph → AreOfLatches (length c.latches.items) set → Each (IsTrueIn v) (all_broken c k y set) → (j : ℕ) (d : List LatchLiteral) → slice_get set j ≡ Some d → v (j + y) ≡ true → meets (next_state c s x) d ≡ false
-all_broken_to c v k y s x [] p of e j d is named = absurd (let e : ⊥ = cc in e)
-all_broken_to c v k y s x (d' ∷ ds) p of e zero d is named =
+pub all_broken_to : (c : Circuit) (v : ℕ → Bool) (k y : ℕ) (s x : List Bool) (set : List (List LatchLiteral)) → ((j : ℕ) (d : List LatchLiteral) → slice_get set j ≡ Some d → HasNext c v k s x d) → Each (IsTrueIn v) (all_broken c k y set) → (j : ℕ) (d : List LatchLiteral) → slice_get set j ≡ Some d → v (j + y) ≡ true → meets (next_state c s x) d ≡ false
+all_broken_to c v k y s x [] p e j d is named = absurd (let e : ⊥ = cc in e)
+all_broken_to c v k y s x (d' ∷ ds) p e zero d is named =
     let same : d' ≡ d = cc in
     let place : 0 + y ≡ y = omega arith in
-    let here : meets (next_state c s x) d' ≡ false = broken_to c v k y s x d' p (of.each 0 d' refl) (each_left (IsTrueIn v) (broken_clauses c k y d') (all_broken c k (y + 1) ds) e) (ap v (sym place) ∙ named) in
+    let here : meets (next_state c s x) d' ≡ false = broken_to c v k y s x d' (p 0 d' refl) (each_left (IsTrueIn v) (broken_clauses c k y d') (all_broken c k (y + 1) ds) e) (ap v (sym place) ∙ named) in
     subst (λ (z : List LatchLiteral). meets (next_state c s x) z ≡ false) same here
-all_broken_to c v k y s x (d' ∷ ds) p of e (suc j) d is named =
+all_broken_to c v k y s x (d' ∷ ds) p e (suc j) d is named =
     let place : suc j + y ≡ j + (y + 1) = omega arith in
-    all_broken_to c v k (y + 1) s x ds p (record { each = λ i z h. of.each (suc i) z h }) (each_right (IsTrueIn v) (broken_clauses c k y d') (all_broken c k (y + 1) ds) e) j d is (ap v (sym place) ∙ named)
+    all_broken_to c v k (y + 1) s x ds (λ i z h. p (suc i) z h) (each_right (IsTrueIn v) (broken_clauses c k y d') (all_broken c k (y + 1) ds) e) j d is (ap v (sym place) ∙ named)
 
-pub all_broken_from : (c : Circuit) (v : ℕ → Bool) (k y : ℕ) (s x : List Bool) (set : List (List LatchLiteral)) → IsValuation s x (shifted v k) c.graph → AreOfLatches (length c.latches.items) set → ((j : ℕ) (d : List LatchLiteral) → slice_get set j ≡ Some d → v (j + y) ≡ true → meets (next_state c s x) d ≡ false) → Each (IsTrueIn v) (all_broken c k y set)
-all_broken_from c v k y s x [] p of h = each_nil (IsTrueIn v)
-all_broken_from c v k y s x (d ∷ ds) p of h =
+pub all_broken_from : (c : Circuit) (v : ℕ → Bool) (k y : ℕ) (s x : List Bool) (set : List (List LatchLiteral)) → ((j : ℕ) (d : List LatchLiteral) → slice_get set j ≡ Some d → HasNext c v k s x d) → ((j : ℕ) (d : List LatchLiteral) → slice_get set j ≡ Some d → v (j + y) ≡ true → meets (next_state c s x) d ≡ false) → Each (IsTrueIn v) (all_broken c k y set)
+all_broken_from c v k y s x [] p h = each_nil (IsTrueIn v)
+all_broken_from c v k y s x (d ∷ ds) p h =
     each_append (IsTrueIn v) (broken_clauses c k y d) (all_broken c k (y + 1) ds)
-    (broken_from c v k y s x d p (of.each 0 d refl) (λ named. let place : y ≡ 0 + y = omega arith in h 0 d refl (ap v (sym place) ∙ named)))
-    (all_broken_from c v k (y + 1) s x ds p (record { each = λ i z q. of.each (suc i) z q }) (λ j z is named. let place : j + (y + 1) ≡ suc j + y = omega arith in h (suc j) z is (ap v (sym place) ∙ named)))
+    (broken_from c v k y s x d (p 0 d refl) (λ named. let place : y ≡ 0 + y = omega arith in h 0 d refl (ap v (sym place) ∙ named)))
+    (all_broken_from c v k (y + 1) s x ds (λ i z q. p (suc i) z q) (λ j z is named. let place : j + (y + 1) ≡ suc j + y = omega arith in h (suc j) z is (ap v (sym place) ∙ named)))
 
 -- some clause of the set is named
 pub record IsNamed (v : ℕ → Bool) (y : ℕ) (set : List (List LatchLiteral)) : Type 0 where

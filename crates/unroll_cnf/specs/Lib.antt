@@ -1,4 +1,5 @@
 pub mod Latches
+pub mod Cones
 pub mod Runs
 pub mod Queries
 pub mod Meaning

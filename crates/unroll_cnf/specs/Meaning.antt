@@ -3,14 +3,16 @@ use Rattle.std.specs.Prelude.{◌≡◌, ℕ, zero, suc, ◌+◌, Bool, true, fa
 use Rattle.std.specs.List.{All}
 use Rattle.lemma_checker.specs.declared.literal.Literal.{Literal}
 use Rattle.lemma_checker.specs.Clauses.{Solves}
+use Rattle.gate_graph.specs.declared.nodes.Node.{Node}
+use Rattle.gate_graph.specs.declared.nodes.Node.TheVariants as node
 use Rattle.gate_graph.specs.declared.circuits.Circuit.{Circuit}
-use Rattle.gate_graph.specs.Values.{IsValuation}
+use Rattle.gate_graph.specs.Values.{at, value}
 use Rattle.gate_graph.specs.Runs.{next_state}
 use Rattle.unroll_cnf.specs.declared.latch_literal.LatchLiteral.{LatchLiteral}
 use Rattle.unroll_cnf.specs.declared.run.CircuitRun.{CircuitRun}
 use Rattle.unroll_cnf.specs.Latches.{meets, MeetsAll, AreOfLatches}
 use Rattle.unroll_cnf.specs.Runs.{state_at}
-use Rattle.unroll_cnf.specs.Queries.{offset, latch_places, input_places, base_clauses, step_clauses, keep_clauses}
+use Rattle.unroll_cnf.specs.Queries.{offset, latch_places, input_places, keep_cones, base_clauses, step_clauses, keep_clauses}
 
 -- the values of the nodes at an edge whose first variable is k, and at edge t
 abbrev pub shifted : (ℕ → Bool) → ℕ → ℕ → Bool
@@ -19,9 +21,15 @@ shifted v k i = v (i + k)
 abbrev pub frame : Circuit → (ℕ → Bool) → ℕ → ℕ → Bool
 frame c v t = shifted v (offset c t)
 
--- the assignment stands for the run: at each edge t of it, the variable of each node has the node's value
+-- the assignment stands for the run: the variables of latches before its first edge, and those of inputs at each edge
+-- t of it, have the run's values
 pub record StandsFor (c : Circuit) (v : ℕ → Bool) (s : List Bool) (xs : List (List Bool)) : Type 0 where
-  pub edge : (t : ℕ) (x : List Bool) → slice_get xs t ≡ Some x → IsValuation (state_at c s xs t) x (frame c v t) c.graph
+  pub latches : (i n : ℕ) → slice_get c.graph i ≡ Some (node.Latch n) → frame c v 0 i ≡ at s n
+  pub inputs : (t : ℕ) (x : List Bool) → slice_get xs t ≡ Some x → (i n : ℕ) → slice_get c.graph i ≡ Some (node.Input n) → frame c v t i ≡ at x n
+
+-- at each edge t of the run, the variable of each node in `cones t` has the node's value
+pub record Follows (c : Circuit) (cones : ℕ → ℕ → Bool) (v : ℕ → Bool) (s : List Bool) (xs : List (List Bool)) : Type 0 where
+  pub node : (t : ℕ) (x : List Bool) → slice_get xs t ≡ Some x → (i : ℕ) (n : Node) → slice_get c.graph i ≡ Some n → cones t i ≡ true → frame c v t i ≡ value (state_at c s xs t) x c.graph i
 
 -- the state and the inputs that the assignment gives, at edge 0, at edge t, and for the first t edges
 unfoldable pub first_state : Circuit → (ℕ → Bool) → List Bool
@@ -34,11 +42,12 @@ abbrev pub run_inputs : Circuit → (ℕ → Bool) → ℕ → List (List Bool)
 run_inputs c v zero = []
 run_inputs c v (suc t) = run_inputs c v t ++ inputs_at c v t ∷ []
 
--- the assignment stands for a run of this kind
-pub record StandsForA (c : Circuit) (v : ℕ → Bool) (kind : List Bool → List (List Bool) → Type 0) : Type 0 where
+-- the assignment stands for a run of this kind, and follows it in the cones
+pub record StandsForA (c : Circuit) (cones : ℕ → ℕ → Bool) (v : ℕ → Bool) (kind : List Bool → List (List Bool) → Type 0) : Type 0 where
   pub start : List Bool
   pub inputs : List (List Bool)
   pub stands : StandsFor c v start inputs
+  pub follows : Follows c cones v start inputs
   pub is : kind start inputs
 
 -- some assignment satisfies the clauses and stands for the run
@@ -53,6 +62,7 @@ pub record StandsForKeep (c : Circuit) (v : ℕ → Bool) (set : List (List Latc
   pub start : List Bool
   pub input : List Bool
   pub stands : StandsFor c v start (input ∷ [])
+  pub follows : Follows c (keep_cones c set) v start (input ∷ [])
   pub starts : MeetsAll start set
   pub place : ℕ
   pub clause : List LatchLiteral

@@ -1,6 +1,7 @@
 -- The queries: base and step queries of bounded model checking and k-induction, and the query whether a set of
--- latch clauses is kept. Node i at edge t is variable i + t * nodes + 1.
-use Rattle.std.specs.Prelude.{ℕ, zero, suc, ◌+◌, ◌-◌, ◌*◌, Bool, true, false, List, [], ◌∷◌, ◌++◌, length, map, Option, Some, None, slice_get, slice_index_or}
+-- latch clauses is kept. Node i at edge t is variable i + t * nodes + 1. A query speaks of the nodes of its cones
+-- alone, and of all latches at the start.
+use Rattle.std.specs.Prelude.{ℕ, zero, suc, ◌+◌, ◌-◌, ◌*◌, Bool, true, false, List, [], ◌∷◌, ◌++◌, length, map, cond, Option, Some, None, slice_get, slice_index_or}
 use Rattle.lemma_checker.specs.declared.literal.Literal.{Literal}
 use Rattle.lemma_checker.specs.Clauses.{opposite}
 use Rattle.gate_graph.specs.declared.wires.Wire.{Wire}
@@ -12,6 +13,7 @@ use Rattle.gate_graph.specs.declared.parts.Latch.{Latch}
 use Rattle.gate_graph.specs.declared.circuits.Circuit.{Circuit}
 use Rattle.unroll_cnf.specs.declared.latch_literal.LatchLiteral.{LatchLiteral}
 use Rattle.unroll_cnf.specs.Latches.{weakened}
+use Rattle.unroll_cnf.specs.Cones.{bad_cone, set_cone}
 
 -- a variable, its negation, and what denies a literal
 abbrev pub plain : ℕ → Literal
@@ -82,20 +84,34 @@ start_clauses latches k i (node.Latch n) = starting (i + k) (slice_get latches n
 start_clauses latches k i (node.Input n) = []
 start_clauses latches k i (node.And a b) = []
 
--- all nodes at edge t; all latches from edge t to the next; all latches at the start
-abbrev pub edge_clauses : Circuit → ℕ → List (List Literal)
-edge_clauses c t = by_node (gate_clauses (offset c t)) 0 c.graph
+-- the clauses of a node in a set alone
+abbrev pub within : (ℕ → Bool) → (ℕ → Node → List (List Literal)) → ℕ → Node → List (List Literal)
+within set f i n = cond (set i) (f i n) []
 
-abbrev pub link_clauses : Circuit → ℕ → List (List Literal)
-link_clauses c t = by_node (latch_clauses c.latches.items (offset c t) (offset c (t + 1))) 0 c.graph
+-- the nodes of a set at edge t; its latches from edge t to the next; all latches at the start
+abbrev pub edge_clauses : Circuit → (ℕ → Bool) → ℕ → List (List Literal)
+edge_clauses c set t = by_node (within set (gate_clauses (offset c t))) 0 c.graph
+
+abbrev pub link_clauses : Circuit → (ℕ → Bool) → ℕ → List (List Literal)
+link_clauses c set t = by_node (within set (latch_clauses c.latches.items (offset c t) (offset c (t + 1)))) 0 c.graph
 
 abbrev pub starts_clauses : Circuit → List (List Literal)
 starts_clauses c = by_node (start_clauses c.latches.items (offset c 0)) 0 c.graph
 
--- the edges 0 to t, each linked to the next
-abbrev pub run_clauses : Circuit → ℕ → List (List Literal)
-run_clauses c zero = edge_clauses c 0
-run_clauses c (suc t) = run_clauses c t ++ (link_clauses c t ++ edge_clauses c (t + 1))
+-- the edges 0 to t, each linked to the next, where edge t has the nodes of `cones t`
+abbrev pub run_clauses : Circuit → (ℕ → ℕ → Bool) → ℕ → List (List Literal)
+run_clauses c cones zero = edge_clauses c (cones 0) 0
+run_clauses c cones (suc t) = run_clauses c cones t ++ (link_clauses c (cones (t + 1)) t ++ edge_clauses c (cones (t + 1)) (t + 1))
+
+-- the cones of the queries, by edges
+abbrev pub base_cones : Circuit → ℕ → ℕ → ℕ → Bool
+base_cones c k t = bad_cone c false (k - 1 - t)
+
+abbrev pub step_cones : Circuit → ℕ → ℕ → ℕ → Bool
+step_cones c k t = bad_cone c true (k - t)
+
+abbrev pub keep_cones : Circuit → List (List LatchLiteral) → ℕ → ℕ → Bool
+keep_cones c set t = set_cone c set
 
 -- the first t edges are good
 abbrev pub good_clauses : Circuit → ℕ → List (List Literal)
@@ -104,7 +120,7 @@ good_clauses c (suc t) = good_clauses c t ++ (denied (literal_at (offset c t) c.
 
 -- the base query of k edges: from the start, bad at the last
 unfoldable pub base_clauses : Circuit → ℕ → List (List Literal)
-base_clauses c k = starts_clauses c ++ (run_clauses c (k - 1) ++ (literal_at (offset c (k - 1)) c.bad ∷ []) ∷ [])
+base_clauses c k = starts_clauses c ++ (run_clauses c (base_cones c k) (k - 1) ++ (literal_at (offset c (k - 1)) c.bad ∷ []) ∷ [])
 
 -- the numbers of the latch nodes, and of the input nodes, where the first node has number i
 abbrev pub latch_places : ℕ → List Node → List ℕ
@@ -131,7 +147,7 @@ set_clause c k d = map (latch_literal c k) (weakened d)
 
 -- the step query of k edges: from a state that meets the set, good at the first k edges, bad at the next
 unfoldable pub step_clauses : Circuit → List (List LatchLiteral) → ℕ → List (List Literal)
-step_clauses c set k = map (set_clause c (offset c 0)) set ++ (run_clauses c k ++ (good_clauses c k ++ (literal_at (offset c k) c.bad ∷ []) ∷ []))
+step_clauses c set k = map (set_clause c (offset c 0)) set ++ (run_clauses c (step_cones c k) k ++ (good_clauses c k ++ (literal_at (offset c k) c.bad ∷ []) ∷ []))
 
 -- a latch literal in the state after that edge
 abbrev pub no_latch : Latch
@@ -155,4 +171,4 @@ some_of y (d ∷ ds) = plain y ∷ some_of (y + 1) ds
 
 -- the keep query: from a state that meets the set, over an edge, to a state that does not
 unfoldable pub keep_clauses : Circuit → List (List LatchLiteral) → List (List Literal)
-keep_clauses c set = run_clauses c 0 ++ (map (set_clause c (offset c 0)) set ++ (all_broken c (offset c 0) (offset c 1) set ++ some_of (offset c 1) set ∷ []))
+keep_clauses c set = run_clauses c (keep_cones c set) 0 ++ (map (set_clause c (offset c 0)) set ++ (all_broken c (offset c 0) (offset c 1) set ++ some_of (offset c 1) set ∷ []))

@@ -1,14 +1,18 @@
 //! The clauses of a run's edges, and of its start.
 
-ghost use Rattle.std.specs.Prelude.{◌≡◌, ◌≢◌, ◌+◌, ◌*◌, ◌/◌, ◌^◌, ◌<◌, ◌≤◌, [], ◌∷◌, ◌++◌, length, slice_get, OnOk, IfSome};
+ghost use Rattle.std.specs.Prelude.{◌≡◌, ◌≢◌, ◌+◌, ◌*◌, ◌/◌, ◌^◌, ◌<◌, ◌≤◌, [], ◌∷◌, ◌++◌, length, map, slice_get, OnOk, IfSome};
 ghost use Rattle.gate_graph.specs.Gates.{IsOf, IsLow};
-ghost use Rattle.unroll_cnf.specs.Queries.{offset, gate_clauses, same_clauses, next_clauses, latch_clauses, first_clauses, starting, start_clauses, literal_at, edge_clauses, link_clauses, starts_clauses, run_clauses, good_clauses};
+ghost use Rattle.gate_graph.specs.Values.{at};
+ghost use Rattle.unroll_cnf.specs.Cones.{marks_at};
+ghost use Rattle.unroll_cnf.specs.Queries.{offset, within, gate_clauses, same_clauses, next_clauses, latch_clauses, first_clauses, starting, start_clauses, literal_at, edge_clauses, link_clauses, starts_clauses, run_clauses, good_clauses};
 
+use crate::cones::is_marked;
 use crate::literals::{denied_literal, negated_literal, plain_literal, wire_literal};
 use gate_graph::{Circuit, Latch, Node, Start};
 use lemma_checker::clauses::Clauses;
 use lemma_checker::literal::Literal;
 use std::alloc::AllocError;
+use std::vec::Vec;
 
 /// Adds a clause of one literal.
 pub(crate) fn push_one(out: &mut Clauses, a: Literal) -> Result<(), AllocError>
@@ -73,20 +77,45 @@ fn push_gate(out: &mut Clauses, first: u32, i: u32, node: Node) -> Result<(), Al
     }
 }
 
-/// Adds that each node has at edge `t` the value that it says.
-pub(crate) fn push_edge(out: &mut Clauses, circuit: &Circuit, t: u32) -> Result<(), AllocError>
+/// Adds that node `i`, if it is marked, has the value that it says.
+fn push_marked_gate(
+    out: &mut Clauses,
+    marks: &[bool],
+    first: u32,
+    i: u32,
+    node: Node,
+) -> Result<(), AllocError>
+    requires first { first ≤ 2 ^ 26 }
+    requires place { i < 2 ^ 20 }
+    requires low { IsLow i node }
+    ensures { OnOk result (out.new ≡ out.old ++ within (at marks.now) (gate_clauses first) i node) }
+{
+    if is_marked(marks, i) {
+        push_gate(out, first, i, node)
+    } else {
+        Ok(())
+    }
+}
+
+/// Adds that each marked node has at edge `t` the value that it says.
+pub(crate) fn push_edge(
+    out: &mut Clauses,
+    circuit: &Circuit,
+    marks: &[bool],
+    t: u32,
+) -> Result<(), AllocError>
     requires early { t ≤ 33 }
-    ensures { OnOk result (out.new ≡ out.old ++ edge_clauses circuit.now t) }
+    ensures { OnOk result (out.new ≡ out.old ++ edge_clauses circuit.now (at marks.now) t) }
 {
     let first = first_variable(circuit, t);
     for i in 0..circuit.graph.size() {
-        push_gate(out, first, i, circuit.graph.node(i))?;
+        push_marked_gate(out, marks, first, i, circuit.graph.node(i))?;
     }
     Ok(())
 }
 
 /// Latch `n`, if there is one.
-fn latch_of(circuit: &Circuit, n: u32) -> Option<Latch>
+pub(crate) fn latch_of(circuit: &Circuit, n: u32) -> Option<Latch>
     ensures value { result ≡ slice_get circuit.now.latches.items n }
     ensures of { IfSome result (λ l. IsOf l.next circuit.now.graph) }
 {
@@ -143,15 +172,44 @@ fn push_latch(
     }
 }
 
-/// Adds that each latch goes from edge `t` to the next.
-pub(crate) fn push_link(out: &mut Clauses, circuit: &Circuit, t: u32) -> Result<(), AllocError>
+/// Adds that node `i`, if it is a marked latch, goes to the edge where node 0 has the variable `second`.
+fn push_marked_latch(
+    out: &mut Clauses,
+    circuit: &Circuit,
+    marks: &[bool],
+    first: u32,
+    second: u32,
+    i: u32,
+    node: Node,
+) -> Result<(), AllocError>
+    requires first { first ≤ 2 ^ 26 }
+    requires second { second ≤ 2 ^ 26 }
+    requires place { i < 2 ^ 20 }
+    requires later { first + length circuit.now.graph ≤ second }
+    ensures { OnOk result (out.new ≡ out.old ++ within (at marks.now) (latch_clauses circuit.now.latches.items first second) i node) }
+{
+    if is_marked(marks, i) {
+        push_latch(out, circuit, first, second, i, node)
+    } else {
+        Ok(())
+    }
+}
+
+/// Adds that each marked latch goes from edge `t` to the next.
+pub(crate) fn push_link(
+    out: &mut Clauses,
+    circuit: &Circuit,
+    marks: &[bool],
+    t: u32,
+) -> Result<(), AllocError>
     requires early { t < 33 }
-    ensures { OnOk result (out.new ≡ out.old ++ link_clauses circuit.now t) }
+    ensures { OnOk result (out.new ≡ out.old ++ link_clauses circuit.now (at marks.now) t) }
 {
     let first = first_variable(circuit, t);
     let second = first_variable(circuit, t + 1);
     for i in 0..circuit.graph.size() {
-        push_latch(out, circuit, first, second, i, circuit.graph.node(i))?;
+        let node = circuit.graph.node(i);
+        push_marked_latch(out, circuit, marks, first, second, i, node)?;
     }
     Ok(())
 }
@@ -213,15 +271,23 @@ pub(crate) fn push_starts(out: &mut Clauses, circuit: &Circuit) -> Result<(), Al
     Ok(())
 }
 
-/// Adds the edges 0 to `last`, each linked to the next.
-pub(crate) fn push_run(out: &mut Clauses, circuit: &Circuit, last: u32) -> Result<(), AllocError>
+/// Adds the edges 0 to `last`, each linked to the next; `cones` marks the nodes of each, those of the
+/// last edge first.
+pub(crate) fn push_run(
+    out: &mut Clauses,
+    circuit: &Circuit,
+    cones: &[Vec<bool>],
+    last: u32,
+) -> Result<(), AllocError>
     requires early { last ≤ 33 }
-    ensures { OnOk result (out.new ≡ out.old ++ run_clauses circuit.now last) }
+    requires cones { length cones.now ≡ last + 1 }
+    ensures { OnOk result (out.new ≡ out.old ++ run_clauses circuit.now (marks_at (map (λ m. m.items) cones.now) last) last) }
 {
-    push_edge(out, circuit, 0)?;
+    push_edge(out, circuit, cones[last as usize].as_slice(), 0)?;
     for t in 0..last {
-        push_link(out, circuit, t)?;
-        push_edge(out, circuit, t + 1)?;
+        let marks = cones[(last - t - 1) as usize].as_slice();
+        push_link(out, circuit, marks, t)?;
+        push_edge(out, circuit, marks, t + 1)?;
     }
     Ok(())
 }

@@ -1,6 +1,7 @@
 //! Queries about the runs of a circuit, as formulas.
 #![tactic(auto)]
 
+mod cones;
 mod edges;
 pub mod latch_clause;
 pub mod latch_literal;

@@ -4,7 +4,8 @@ ghost use Rattle.std.specs.Prelude.{◌≡◌, ◌+◌, ◌*◌, ◌^◌, ◌<�
 ghost use Rattle.unroll_cnf.specs.Latches.{AreOfLatches, weight};
 ghost use Rattle.unroll_cnf.specs.Queries.{base_clauses, step_clauses, keep_clauses};
 
-use crate::edges::{first_variable, push_bad, push_good, push_run, push_starts};
+use crate::cones::{bad_cones, set_cone};
+use crate::edges::{first_variable, push_bad, push_edge, push_good, push_run, push_starts};
 use crate::latch_clause::LatchClause;
 use crate::limits::{MOST_EDGES, MOST_WEIGHT};
 use crate::places::latch_nodes;
@@ -21,9 +22,10 @@ fn base_list(alloc: Global, circuit: &Circuit, k: u32) -> Result<Clauses, AllocE
     requires few { k ≤ MOST_EDGES }
     ensures { IfOk result (λ list. list ≡ base_clauses circuit.now k) }
 {
+    let cones = bad_cones(alloc, circuit, false, k - 1)?;
     let mut out = Clauses::new(alloc);
     push_starts(&mut out, circuit)?;
-    push_run(&mut out, circuit, k - 1)?;
+    push_run(&mut out, circuit, cones.as_slice(), k - 1)?;
     push_bad(&mut out, circuit, k - 1)?;
     Ok(out)
 }
@@ -48,6 +50,7 @@ fn step_list(
     ensures { IfOk result (λ list. list ≡ step_clauses circuit.now set.now k) }
 {
     let places = latch_nodes(alloc, circuit)?;
+    let cones = bad_cones(alloc, circuit, true, k)?;
     let mut scratch = scratch(alloc);
     let mut out = Clauses::new(alloc);
     let first = first_variable(circuit, 0);
@@ -59,7 +62,7 @@ fn step_list(
         set,
         &mut scratch,
     )?;
-    push_run(&mut out, circuit, k)?;
+    push_run(&mut out, circuit, cones.as_slice(), k)?;
     push_good(&mut out, circuit, k)?;
     push_bad(&mut out, circuit, k)?;
     Ok(out)
@@ -73,10 +76,11 @@ fn keep_list(alloc: Global, circuit: &Circuit, set: &[LatchClause]) -> Result<Cl
 {
     let places = latch_nodes(alloc, circuit)?;
     let mut scratch = scratch(alloc);
+    let cone = set_cone(alloc, circuit, set, &mut scratch.latches)?;
     let mut out = Clauses::new(alloc);
     let first = first_variable(circuit, 0);
     let second = first_variable(circuit, 1);
-    push_run(&mut out, circuit, 0)?;
+    push_edge(&mut out, circuit, cone.as_slice(), 0)?;
     push_set(
         &mut out,
         circuit,

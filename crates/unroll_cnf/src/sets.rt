@@ -31,7 +31,10 @@ fn denies_live(clause: &[LatchLiteral]) -> bool
 }
 
 /// Writes the clause with the literal that holds where `live` is 0.
-fn weaken(clause: &[LatchLiteral], into: &mut Vec<LatchLiteral>) -> Result<(), AllocError>
+pub(crate) fn weaken(
+    clause: &[LatchLiteral],
+    into: &mut Vec<LatchLiteral>,
+) -> Result<(), AllocError>
     ensures { OnOk result (into.new.items ≡ weakened clause.now) }
 {
     into.clear();

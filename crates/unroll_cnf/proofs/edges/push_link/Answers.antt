@@ -1,6 +1,7 @@
-use Rattle.unroll_cnf.specs.Queries.{latch_clauses}
+use Rattle.gate_graph.specs.Values.{at}
+use Rattle.unroll_cnf.specs.Queries.{within, latch_clauses}
 use Rattle.unroll_cnf.proofs.PushLemmas.{pushed_node}
 use Rattle.unroll_cnf.proofs.edges.push_link.Goals as goal
 
 pub loop-i-preserved : goal.loop-i-preserved
-loop-i-preserved c = pushed_node (latch_clauses c.args.circuit.now.latches.items c.first_variable-first.result c.first_variable-second.result) c.loop-i.i c.args.circuit.now.graph _ _ _ _ c.node.ensures.node c.in_ok-push_latch.ensures c.loop-i.invariant
+loop-i-preserved c = pushed_node (within (at c.args.marks.now) (latch_clauses c.args.circuit.now.latches.items c.first_variable-first.result c.first_variable-second.result)) c.loop-i.i c.args.circuit.now.graph _ _ _ _ c.node-node.ensures.node c.in_ok-push_marked_latch.ensures c.loop-i.invariant

@@ -2,7 +2,8 @@ use Rattle.std.proofs.Common.{Bool, List, ap, ◌∙◌}
 use Rattle.lemma_checker.specs.Clauses.{assigned}
 use Rattle.unroll_cnf.specs.Runs.{IsBaseRun, IsStepRun, IsKeepEdge}
 use Rattle.unroll_cnf.specs.Meaning.{StandsFor, first_state, run_inputs}
-use Rattle.unroll_cnf.proofs.ModelLemmas.{at_run, query_stands, base_run_is, step_run_is, keep_run_is, has_sizes}
+use Rattle.unroll_cnf.proofs.ModelLemmas.{at_run, base_run_is, step_run_is, keep_run_is, has_sizes}
+use Rattle.unroll_cnf.proofs.RunLemmas.{stands_for}
 use Rattle.unroll_cnf.proofs.model.run_of.Goals as goal
 
 pub returns-clause-run : goal.returns-clause-run
@@ -10,7 +11,7 @@ returns-clause-run c =
     at_run (StandsFor c.args.circuit.now (assigned c.args.model.now.values.items)) _ _ _ _
     (c.in_ok-found.ensures.start ∙ ap (λ (z : List Bool). first_state c.args.circuit.now (assigned z)) c.as_slice.ensures.value)
     (c.in_ok-found.ensures.inputs ∙ ap (λ (z : List Bool). run_inputs c.args.circuit.now (assigned z) c.args.edges) c.as_slice.ensures.value)
-    (query_stands c.args.circuit.now (assigned c.args.model.now.values.items) c.args.edges c.args.model.now.formula.clauses c.requires.some c.requires.query c.args.model.now.met)
+    (stands_for c.args.circuit.now (assigned c.args.model.now.values.items) c.args.edges)
 
 pub returns-clause-sizes : goal.returns-clause-sizes
 returns-clause-sizes c = has_sizes c.args.circuit.now (assigned c.as_slice.result.now) c.args.edges _ c.in_ok-found.ensures.start c.in_ok-found.ensures.inputs
