@@ -17,7 +17,7 @@ use Rattle.gate_graph.specs.Runs.{next_state}
 use Rattle.unroll_cnf.specs.declared.latch_literal.LatchLiteral.{LatchLiteral}
 use Rattle.unroll_cnf.specs.Latches.{meets, MeetsAll, IsOfLatches, AreOfLatches, weight}
 use Rattle.unroll_cnf.specs.Runs.{IsKeepEdge}
-use Rattle.unroll_cnf.specs.Queries.{run_clauses, keep_clauses}
+use Rattle.unroll_cnf.specs.Queries.{run_clauses, keep_cones, keep_clauses}
 use Rattle.unroll_cnf.specs.Meaning.{IsStoodFor}
 use Rattle.unroll_cnf.proofs.QueryLemmas.{keep_run}
 use Rattle.unroll_cnf.proofs.SetLemmas.{IsUnmet, unmet_of}
@@ -47,7 +47,7 @@ unfolding keep_clauses
 empty_chains c = ∣ record {
   added = [];
   derived = record { lengths = refl; each = λ i d ids pivots is at_chain. absurd (let e : ⊥ = cc in e) };
-  empty = list_any-append (λ (d : List Literal). length d == 0) (run_clauses c 0 ++ [] ∷ []) [] ∙ or_left (has_empty (run_clauses c 0 ++ [] ∷ [])) (has_empty []) (list_any-append (λ (d : List Literal). length d == 0) (run_clauses c 0) ([] ∷ []) ∙ or_right (has_empty (run_clauses c 0)) (has_empty ([] ∷ [])) refl);
+  empty = list_any-append (λ (d : List Literal). length d == 0) (run_clauses c (keep_cones c []) 0 ++ [] ∷ []) [] ∙ or_left (has_empty (run_clauses c (keep_cones c []) 0 ++ [] ∷ [])) (has_empty []) (list_any-append (λ (d : List Literal). length d == 0) (run_clauses c (keep_cones c []) 0) ([] ∷ []) ∙ or_right (has_empty (run_clauses c (keep_cones c []) 0)) (has_empty ([] ∷ [])) refl);
 } ∣₁
 
 -- a spent budget on a query
