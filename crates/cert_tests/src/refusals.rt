@@ -61,36 +61,36 @@ const fn refused(text: &'static [u8], code: CertCode, line: u32) -> Row {
 fn certificates_are_accepted_and_refused_at_their_first_fault(rt: HostRuntime) -> Result<(), Fail> {
     let rows = [
         Row {
-            text: b"cert 1\nk 1\nkeep 1\nc -2\nq keep\nr 5 3 2 4 5 / 4 2 3 4\nq base 1\nr 4 2 / 3\nq step\nr 9 5 8 / 6 3\nend\n",
+            text: b"cert 1\nk 1\nkeep 1\nc -2\nq keep\nr 4 2 1 3 4 / 4 2 3 4\nq base 1\nr 3 2 / 3\nq step\nr 5 2 4 / 6 3\nend\n",
             answer: Ok(1),
         },
         refused(
-            b"cert 1\nk 1\nkeep 1\nc -2\nq keep\nr 5 3 2 4 5 / 4 2 3 4\nq base 1\nr 4 2 / 3\nq step\nr 9 5 8 / 6 3\n",
+            b"cert 1\nk 1\nkeep 1\nc -2\nq keep\nr 4 2 1 3 4 / 4 2 3 4\nq base 1\nr 3 2 / 3\nq step\nr 5 2 4 / 6 3\n",
             CertCode::CertShort,
             11,
         ),
         refused(
-            b"cert 1\nk 1\nkeep 1\nc -2\nq keep\nr 5 3 2 4 5 / 4 2 3 4\nq base 1\nr 4 2 / 3\nq step\nr 9 5 8 / 6 3\nend\nend\n",
+            b"cert 1\nk 1\nkeep 1\nc -2\nq keep\nr 4 2 1 3 4 / 4 2 3 4\nq base 1\nr 3 2 / 3\nq step\nr 5 2 4 / 6 3\nend\nend\n",
             CertCode::CertLine,
             12,
         ),
         refused(
-            b"cert 1\nk 1\nkeep 1\nc -2\nq keep\nr 5 3 2 4 5 / 4 2 3 4\nq base 1\nr 4 2 / 3\nq step\nr 9 5 / 6\nend\n",
+            b"cert 1\nk 1\nkeep 1\nc -2\nq keep\nr 4 2 1 3 4 / 4 2 3 4\nq base 1\nr 3 2 / 3\nq step\nr 5 2 / 6\nend\n",
             CertCode::CertShort,
             11,
         ),
         refused(
-            b"cert 1\nk 1\nkeep 1\nc -2\nq keep\nr 5 3 2 4 / 4 2 3 4\n",
+            b"cert 1\nk 1\nkeep 1\nc -2\nq keep\nr 4 2 1 3 / 4 2 3 4\n",
             CertCode::BadStep,
             6,
         ),
         refused(
-            b"cert 1\nk 1\nkeep 1\nc -2\nq keep\nr 4294967301 3 / 4\n",
+            b"cert 1\nk 1\nkeep 1\nc -2\nq keep\nr 4294967300 2 / 4\n",
             CertCode::BadStep,
             6,
         ),
         refused(
-            b"cert 1\nk 1\nkeep 1\nc -2\nq keep\nr 5 3 2 4 5 / 4 2 3 4\nq step\n",
+            b"cert 1\nk 1\nkeep 1\nc -2\nq keep\nr 4 2 1 3 4 / 4 2 3 4\nq step\n",
             CertCode::CertLine,
             7,
         ),
