@@ -170,7 +170,7 @@ gates nodes fields inputs w views hw None views_are h wide = means_on nodes view
 gates nodes fields inputs w views hw (Some g) views_are h wide = as_bit_means nodes _ g.high _ (one_bit nodes fields inputs w views hw g.expr views_are (h g refl) (wide g refl))
 
 -- many places
-places_low : (w n : ℕ) → low_bits w n ≡ map (bit n) (range_with_len 0 w)
+pub places_low : (w n : ℕ) → low_bits w n ≡ map (bit n) (range_with_len 0 w)
 places_low w n =
     let whole : length (map (bit n) (range_with_len 0 w)) ≡ w = length-map-range_with_len (bit n) 0 w in
     ap (λ m. low_bits m n) (sym whole) ∙ low_bits_by (map (bit n) (range_with_len 0 w)) n (λ i lt. sym (get_or-map-range_with_len (bit n) 0 w i i false (omega (arith, whole)) (omega arith)))
