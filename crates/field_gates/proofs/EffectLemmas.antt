@@ -3,10 +3,12 @@ use Rattle.std.proofs.Common.{◌≡◌, ℕ, Bool, true, false, not, ◌&&◌, 
 use Rattle.std.specs.Result.{IfOk}
 use Rattle.std.specs.declared.vec.Vec.{Vec}
 use Rattle.std.specs.declared.alloc.Global.{Global}
-use Rattle.bit_base.specs.Operators.{each_place}
+use Rattle.bit_base.specs.Operators.{each_place, is_any, are_all}
 use Rattle.gate_graph.specs.declared.wires.Wire.{Wire}
 use Rattle.gate_graph.specs.declared.nodes.Node.{Node}
-use Rattle.gate_graph.specs.Gates.{AreOf, Means}
+use Rattle.gate_graph.specs.Gates.{AreOf, Means, Extends}
+use Rattle.gate_graph.proofs.GateLemmas.{extends_more}
+use Rattle.std.specs.Prelude.{◌+◌}
 use Rattle.word_gates.specs.Words.{values, Shows}
 use Rattle.word_gates.proofs.RippleLemmas.{shows_repeated}
 use Rattle.word_gates.proofs.WordLemmas.{shows_itself, shows_same, same_length, length-values}
@@ -90,3 +92,41 @@ read_bits false false b = refl
 pub hardware_bits : (first software : Bool) → not (not first && software) ≡ (first || not software)
 hardware_bits true software = refl
 hardware_bits false software = refl
+
+pub covered_bits : (xs : List Bool) → not (is_any (map not xs)) ≡ are_all xs
+covered_bits [] = refl
+covered_bits (true ∷ xs) = covered_bits xs
+covered_bits (false ∷ xs) = refl
+
+swapped : (a b c : Bool) → (a && (b && c)) ≡ (a && c && b)
+swapped true true true = refl
+swapped true true false = refl
+swapped true false true = refl
+swapped true false false = refl
+swapped false true true = refl
+swapped false true false = refl
+swapped false false true = refl
+swapped false false false = refl
+
+turned : (a b c : Bool) → (a && (b && c)) ≡ (b && c && a)
+turned true true true = refl
+turned true true false = refl
+turned true false true = refl
+turned true false false = refl
+turned false true true = refl
+turned false true false = refl
+turned false false true = refl
+turned false false false = refl
+
+joined : (k a b c : Bool) → (k || ((a || b) || c)) ≡ (k || (a || b || c))
+joined true a b c = refl
+joined false true b c = refl
+joined false false b c = refl
+
+pub known_bits : (k soft hard shut whole quiet rests pulse : Bool) → (k || ((soft || (hard && (not shut && whole))) || (pulse && (quiet && rests)))) ≡ (k || (soft || (hard && whole && not shut) || (quiet && rests && pulse)))
+known_bits k soft hard shut whole quiet rests pulse = rw (swapped hard (not shut) whole, turned pulse quiet rests) (joined k soft (hard && whole && not shut) (quiet && rests && pulse))
+
+-- five steps, one behind the other
+pub extends_five : (a b c d e f : List Node) (w : ℕ) → Extends a b w → Extends b c 2 → Extends c d 1 → Extends d e 1 → Extends e f 3 → Extends a f (w + 7)
+extends_five a b c d e f w p q r s t =
+    extends_more a e f (w + 4) 3 (w + 7) (extends_more a d e (w + 3) 1 (w + 4) (extends_more a c d (w + 2) 1 (w + 3) (extends_more a b c w 2 (w + 2) p q (omega arith)) r (omega arith)) s (omega arith)) t (omega arith)

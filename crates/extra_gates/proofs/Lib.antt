@@ -1,0 +1,4 @@
+pub mod NumberLemmas
+pub mod WordLaws
+pub mod CountLaws
+pub mod InterruptLaws
