@@ -11,14 +11,16 @@ use rdl_values::frame::Frame;
 use std::alloc::{AllocError, Global};
 
 // The address of the bus word of a register's bit.
-fn word_of(register: u64, access: u64, low: u64) -> u128
-    requires { low ≤ 129 }
+#[tactic(auto, using(crate::proofs::Words::bytes_below))]
+fn word_of(register: u64, access: u64, low: u64) -> u64
+    requires register { register ≤ 4294967297 }
+    requires low { low ≤ 129 }
     ensures { result ≡ spec.word_of register access low }
 {
     if access == 0 {
-        u128::from(register)
+        register
     } else {
-        u128::from(register) + u128::from(access / 8) * u128::from(low / access)
+        register + access / 8 * (low / access)
     }
 }
 
@@ -37,7 +39,8 @@ pub fn field_at(
     low: u64,
     trail: &[Frame<'_>],
 ) -> Result<NamedField, AllocError>
-    requires { low ≤ 129 }
+    requires register { register ≤ 4294967297 }
+    requires low { low ≤ 129 }
     ensures { IfOk result (λ f. f ≡ spec.field_at register access low trail.now) }
 {
     let path = path_at(alloc, trail)?;

@@ -32,7 +32,7 @@ pub struct Spot {
     /// The byte address of its register.
     pub register: u64,
     /// The byte address of its bus word.
-    pub word: u128,
+    pub word: u64,
     /// Its lowest bit in the word.
     pub lsb: u64,
     /// Its bits.

@@ -37,6 +37,7 @@ fn field_by<'x>(
     instance: &'x Instance<'x>,
     low: u64,
 ) -> Result<NamedField, AllocError>
+    requires register { register ≤ 4294967297 }
     requires low { low ≤ 129 }
     requires own { nows own.now ≡ own_of (out-RdlDef instance.now.component.definition).items }
     requires defaults { nows defaults.now ≡ defaults_of instance.now.component.chain }
@@ -64,7 +65,8 @@ fn field_in(
     instance: &Instance<'_>,
     low: u64,
 ) -> Result<NamedField, AllocError>
-    requires { low ≤ 129 }
+    requires register { register ≤ 4294967297 }
+    requires low { low ≤ 129 }
     ensures { IfOk result (λ f. f ≡ field_at register access low (trail.now ++ frame_of targets.now instance.now 0 ∷ [])) }
 {
     let own = own_of(alloc, instance.component.definition.items.as_slice())?;
@@ -92,6 +94,7 @@ fn note_fields(
     targets: &[Target<'_>],
     instances: &[Instance<'_>],
 ) -> Result<(), AllocError>
+    requires { register ≤ 4294967297 }
     ensures { OnOk result (out.new.items ≡ out.old.items ++ spec.fields_in register access trail.now targets.now 0 instances.now) }
 {
     let mut next = 0;
@@ -112,6 +115,7 @@ fn note_here(
     trail: &[Frame<'_>],
     component: &Component<'_>,
 ) -> Result<(), AllocError>
+    requires { address ≤ 4294967297 }
     ensures { OnOk result (out.new.items ≡ out.old.items ++ spec.fields_at address trail.now component.now) }
 {
     match kind_of(component) {
