@@ -1,0 +1,4 @@
+pub mod Signals
+pub mod Given
+pub mod Extras
+pub mod Fields
