@@ -1,5 +1,5 @@
 -- A bus word of a register stands no further behind its address than its bits do.
-use Rattle.std.proofs.Common.{◌≡◌, ℕ, ◌*◌, ◌/◌, ◌≤◌, arith}
+use Rattle.std.proofs.Common.{ℕ, ◌*◌, ◌/◌, ◌≤◌, arith}
 use Rattle.std.proofs.Math.Nat.{mul-div-le, div-le_self, mul-le-mul_right}
 
 pub bytes_below : (access low : ℕ) → access / 8 * (low / access) ≤ low

@@ -2,7 +2,6 @@
 -- is `true`, and what a reference names, all of a field's bits or a reduction of them.
 use Rattle.std.specs.Prelude.{ℕ, Bool, true, false, not, ◌&&◌, if◌then◌else◌, List, Option, Some, None, take, codes}
 use Rattle.rdl_tree.specs.declared.token.RdlToken.{RdlToken}
-use Rattle.rdl_tree.specs.declared.tree.RdlPath.{RdlPath}
 use Rattle.rdl_tree.specs.declared.tree.RdlProp.{RdlProp}
 use Rattle.rdl_tree.specs.declared.tree.RdlSignal.{RdlSignal}
 use Rattle.rdl_tree.specs.declared.tree.RdlAssigned.{RdlAssigned}

@@ -1,5 +1,5 @@
 -- What software and hardware may do to a field, what it starts with, what it counts, and what it shows (SystemRDL 2.0, clause 9).
-use Rattle.std.specs.Prelude.{ℕ, Bool, false, not, ◌&&◌, ◌||◌, if◌then◌else◌, [], ◌∷◌, Option, Some, None}
+use Rattle.std.specs.Prelude.{ℕ, Bool, false, not, ◌&&◌, ◌||◌, if◌then◌else◌, [], ◌∷◌, Option, Some}
 use Rattle.field_policies.specs.declared.policy.ReadEffect.{ReadEffect}
 use Rattle.field_policies.specs.declared.policy.ReadEffect.TheVariants as read
 use Rattle.field_policies.specs.declared.policy.WriteEffect.{WriteEffect}

@@ -9,7 +9,6 @@ use Rattle.rdl_tree.specs.declared.tree.RdlStep.{RdlStep}
 use Rattle.rdl_tree.specs.declared.tree.RdlNextStep.{RdlNextStep}
 use Rattle.rdl_values.specs.OneFrame.{Frame, Trail}
 use Rattle.rdl_values.specs.Values.{is_array}
-use Rattle.rdl_effects.specs.References.{index_in}
 
 abbrev pub step_by : List ℕ → Option ℕ → Step
 step_by name index = record { name = name; element = option_map decimal index }

@@ -36,11 +36,7 @@ fn write_if(writable: bool, trail: &[Frame<'_>]) -> WriteEffect
     }
 }
 
-fn software_by(
-    alloc: Global,
-    access: SwAccess,
-    trail: &[Frame<'_>],
-) -> Result<Software, AllocError>
+fn software_by(alloc: Global, access: SwAccess, trail: &[Frame<'_>]) -> Result<Software, AllocError>
     ensures { IfOk result (λ s. s ≡ spec.software_by access trail.now) }
 {
     let gate = gate_if(
@@ -78,13 +74,7 @@ fn acts(trail: &[Frame<'_>]) -> bool
 pub(crate) fn hardware_at(alloc: Global, trail: &[Frame<'_>]) -> Result<Hardware, AllocError>
     ensures { IfOk result (λ h. h ≡ spec.hardware_at trail.now) }
 {
-    let data_gate = gate_if(
-        alloc,
-        has_data(trail),
-        trail,
-        Property::We,
-        Property::Wel,
-    )?;
+    let data_gate = gate_if(alloc, has_data(trail), trail, Property::We, Property::Wel)?;
     let set = expr_at(alloc, trail, Property::Hwset)?;
     let clear = expr_at(alloc, trail, Property::Hwclr)?;
     let bit_gate = gate_if(

@@ -1,5 +1,5 @@
 -- What the properties of a field are given, other fields and inputs by their numbers: none where what is named isn't there.
-use Rattle.std.specs.Prelude.{ℕ, Bool, true, false, ◌==◌, nat_lt, if◌then◌else◌, List, Option, Some, None}
+use Rattle.std.specs.Prelude.{ℕ, Bool, ◌==◌, nat_lt, if◌then◌else◌, List, Option, Some, None}
 use Rattle.std.specs.List.{position}
 use Rattle.std.specs.Option.{option_map}
 use Rattle.field_policies.specs.declared.signal.HwExpr.{HwExpr}

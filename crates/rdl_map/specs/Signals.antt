@@ -1,5 +1,5 @@
 -- The numbers of a field's hardware inputs, behind those of the fields before it: one after the other in the order of `InSignal`.
-use Rattle.std.specs.Prelude.{ℕ, ◌+◌, Bool, true, false, List, Option, Some, None, take, sum_by}
+use Rattle.std.specs.Prelude.{ℕ, ◌+◌, Bool, true, false, Option, Some, None}
 use Rattle.rdl_fields.specs.declared.named.Inputs.{Inputs}
 use Rattle.rdl_fields.specs.declared.named.NamedField.{NamedField}
 use Rattle.rdl_map.specs.declared.signal.InputNumbers.{InputNumbers}

@@ -60,26 +60,12 @@ pub fn given_gate(
 }
 
 /// What gates a field and changes it, none where what is named isn't there.
-pub fn gates_of(
-    fields: &[NamedField],
-    numbers: InputNumbers,
-    field: &NamedField,
-) -> Option<Gates>
+pub fn gates_of(fields: &[NamedField], numbers: InputNumbers, field: &NamedField) -> Option<Gates>
     requires { length fields.now < 4294967296 }
     ensures { IfSome result (λ gates. AreGates fields.now numbers field.now gates) }
 {
-    let sw_gate = given_gate(
-        fields,
-        numbers.swwe,
-        numbers.swwel,
-        &field.software.gate,
-    )?;
-    let data_gate = given_gate(
-        fields,
-        numbers.we,
-        numbers.wel,
-        &field.hardware.data_gate,
-    )?;
+    let sw_gate = given_gate(fields, numbers.swwe, numbers.swwel, &field.software.gate)?;
+    let data_gate = given_gate(fields, numbers.we, numbers.wel, &field.hardware.data_gate)?;
     let set = given_expr(fields, numbers.hwset, &field.hardware.set)?;
     let clear = given_expr(fields, numbers.hwclr, &field.hardware.clear)?;
     let bit_gate = given_gate(fields, None, None, &field.hardware.bit_gate)?;

@@ -4,4 +4,5 @@
 pub mod extra;
 pub mod field;
 pub mod gate;
+pub mod map;
 pub mod signal;

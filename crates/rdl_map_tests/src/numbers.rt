@@ -64,7 +64,8 @@ fn bus_words_rise(rt: HostRuntime) -> Result<(), Fail> {
     Ok(())
 }
 
-const GATED: &[u8] = b"addrmap a { reg { field { hw = w; we; } f[4] = 0; field { hwset; swwe; } g[4] = 0; f -> swwel = g->ored; } c @ 8; reg { field { counter; } n = 0; } b @ 0; };";
+const GATED: &[u8] =
+    b"addrmap a { reg { field { hw = w; we; } f[4] = 0; field { hwset; swwe; } g[4] = 0; f -> swwel = g->ored; } c @ 8; reg { field { counter; } n = 0; } b @ 0; };";
 
 #[test]
 fn inputs_stand_field_by_field(rt: HostRuntime) -> Result<(), Fail> {

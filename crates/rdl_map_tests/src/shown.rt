@@ -4,8 +4,8 @@ use bit_base::text::Text;
 use field_policies::policy::{ReadEffect, WriteEffect};
 use field_policies::signal::Shown;
 use rdl_fields::named::{
-    Hardware, Inputs, NamedCounter, NamedExpr, NamedExtra, NamedField, NamedGate, NamedIntr, Software,
-    Spot, Start,
+    Hardware, Inputs, NamedCounter, NamedExpr, NamedExtra, NamedField, NamedGate, NamedIntr,
+    Software, Spot, Start,
 };
 use std::alloc::{AllocError, Global};
 use std::vec::Vec;

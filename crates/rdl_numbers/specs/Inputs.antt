@@ -1,5 +1,5 @@
 -- The hardware inputs of fields, field by field: the data, and then those of the properties that are `true`.
-use Rattle.std.specs.Prelude.{ℕ, ◌+◌, Bool, true, false, if◌then◌else◌, List, [], ◌∷◌, ◌++◌, Option, Some, None, map, length}
+use Rattle.std.specs.Prelude.{ℕ, ◌+◌, Bool, true, false, List, [], ◌∷◌, ◌++◌, map}
 use Rattle.field_policies.specs.declared.signal.HwInput.{HwInput}
 use Rattle.field_policies.specs.declared.signal.InSignal.{InSignal}
 use Rattle.field_policies.specs.declared.signal.InSignal.TheVariants as signal

@@ -1,7 +1,7 @@
 -- The numbers of fields in a list of them, and what a property is given, by such numbers.
-use Rattle.std.specs.Prelude.{ℕ, Bool, List, Option, Some, None, bytes_eq}
+use Rattle.std.specs.Prelude.{ℕ, Bool, List, Option, bytes_eq}
 use Rattle.std.specs.List.{position}
-use Rattle.std.specs.Option.{option_map, option_and_then}
+use Rattle.std.specs.Option.{option_map}
 use Rattle.field_policies.specs.declared.signal.HwExpr.{HwExpr}
 use Rattle.field_policies.specs.declared.signal.HwExpr.TheVariants as expr
 use Rattle.field_policies.specs.declared.signal.Gate.{Gate}

@@ -2,7 +2,6 @@
 use Rattle.std.specs.Prelude.{ℕ, ◌+◌, ◌*◌, List, map}
 use Rattle.std.specs.List.Sorted.{IsPermutation, IsNonDecreasingBy}
 use Rattle.rdl_words.specs.Spots.{Spot}
-use Rattle.rdl_words.specs.declared.word.Word.{Word}
 use Rattle.rdl_fields.specs.declared.named.NamedField.{NamedField}
 
 abbrev pub address_of : Spot → ℕ

@@ -16,4 +16,4 @@ note_all-returns t c =
 pub note_elements-loop-index-preserved : goal.note_elements-loop-index-preserved
 note_elements-loop-index-preserved t c =
     more (over fields_at c.args.room) c.args.base _ c.args.up.now c.args.targets.now c.args.instance.now c.args.extent c.loop-index.index _ _ _
-        c.loop-index.invariant c.address_of-address.ensures.address c.in_ok-note_element.ensures
+    c.loop-index.invariant c.address_of-address.ensures.address c.in_ok-note_element.ensures
