@@ -154,10 +154,10 @@ pub fn depth_at(trail: &[Frame<'_>], property: Property) -> usize
     ensures depth { result ≡ spec.depth_at trail.now property }
     ensures inside { result ≤ length trail.now }
 {
-    for at in 0..trail.len() {
-        let frame = &trail[at];
-        if target_in(property, &trail[at..], frame.targets).is_some() {
-            return at;
+    for depth in 0..trail.len() {
+        let outer = &trail[depth];
+        if target_in(property, &trail[depth..], outer.targets).is_some() {
+            return depth;
         }
     }
     trail.len()
