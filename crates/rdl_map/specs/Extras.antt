@@ -1,5 +1,5 @@
 -- Counters and interrupts by numbers. A register's interrupt fields are listed at its first one.
-use Rattle.std.specs.Prelude.{◌≡◌, ℕ, ◌+◌, Bool, true, false, ◌&&◌, ◌==◌, if◌then◌else◌, List, [], ◌∷◌, ◌++◌, Some, None, ⊤}
+use Rattle.std.specs.Prelude.{◌≡◌, ℕ, ◌+◌, Bool, true, false, ◌&&◌, ◌==◌, if◌then◌else◌, List, [], ◌∷◌, ◌++◌, Some, None, is_some, ⊤}
 use Rattle.field_policies.specs.declared.extra.Counter.{Counter}
 use Rattle.field_policies.specs.declared.extra.Intr.{Intr}
 use Rattle.field_policies.specs.declared.extra.Extra.{Extra}
@@ -10,7 +10,7 @@ use Rattle.rdl_fields.specs.declared.named.NamedExtra.{NamedExtra}
 use Rattle.rdl_fields.specs.declared.named.NamedExtra.TheVariants as named
 use Rattle.rdl_fields.specs.declared.named.NamedField.{NamedField}
 use Rattle.rdl_map.specs.declared.signal.InputNumbers.{InputNumbers}
-use Rattle.rdl_map.specs.Given.{given_expr, given_gate}
+use Rattle.rdl_map.specs.Given.{given_expr, given_gate, small}
 
 abbrev pub is_intr : NamedExtra → Bool
 is_intr (named.Intr i) = true
@@ -58,3 +58,14 @@ IsExtraOf fields numbers number register named.Plain extra.Plain = ⊤
 IsExtraOf fields numbers number register (named.Counter g) (extra.Counter c) = IsCounterOf fields numbers g c
 IsExtraOf fields numbers number register (named.Intr g) (extra.Intr i) = IsIntrOf fields number register g i
 IsExtraOf fields numbers number register _ _ = ⊥
+
+-- ---- whether all of it can be told: what is named is there, and numbers have 32 bits
+
+abbrev pub is_counter_told : List NamedField → InputNumbers → NamedCounter → Bool
+is_counter_told fields numbers g =
+    is_some (given_expr fields numbers.incr g.incr) && (is_some (given_expr fields numbers.decr g.decr) && (is_some (small g.up) && is_some (small g.down)))
+
+abbrev pub is_extra_told : List NamedField → InputNumbers → NamedExtra → Bool
+is_extra_told fields numbers named.Plain = true
+is_extra_told fields numbers (named.Counter g) = is_counter_told fields numbers g
+is_extra_told fields numbers (named.Intr g) = is_some (given_gate fields None None g.filter)

@@ -1,5 +1,5 @@
 -- A field of a register map, by what the description says of it.
-use Rattle.std.specs.Prelude.{◌≡◌, ℕ, ◌+◌, ◌&&◌, List, [], ◌∷◌, Option, Some, None, ⊤}
+use Rattle.std.specs.Prelude.{◌≡◌, ℕ, ◌+◌, ◌&&◌, List, [], ◌∷◌, Option, Some, None, ⊤, true, is_some, Bool}
 use Rattle.field_policies.specs.declared.field.Field.{Field}
 use Rattle.field_policies.specs.declared.extra.Extra.{Extra}
 use Rattle.field_policies.specs.declared.signal.Shown.{Shown}
@@ -8,8 +8,8 @@ use Rattle.rdl_map.specs.declared.signal.InputNumbers.{InputNumbers}
 use Rattle.rdl_map.specs.declared.gate.Gates.{Gates}
 use Rattle.rdl_map.specs.declared.field.Position.{Position}
 use Rattle.rdl_map.specs.Signals.{numbers_from, count_at}
-use Rattle.rdl_map.specs.Given.{given_expr, given_gate, word_number}
-use Rattle.rdl_map.specs.Extras.{IsExtraOf, is_intr, is_first}
+use Rattle.rdl_map.specs.Given.{given_expr, given_gate, word_number, small}
+use Rattle.rdl_map.specs.Extras.{IsExtraOf, is_intr, is_first, is_extra_told}
 
 abbrev pub position_in : Field → Position
 position_in f = record { word = f.word; lsb = f.lsb; width = f.width; reset = f.reset }
@@ -70,3 +70,24 @@ abbrev pub AreFrom : List ℕ → List NamedField → ℕ → ℕ → List Named
 AreFrom words fields number base [] [] = ⊤
 AreFrom words fields number base (g ∷ gs) (f ∷ fs) = IsFieldOf words fields number base g f × AreFrom words fields (number + 1) (base + count_at g) gs fs
 AreFrom words fields number base _ _ = ⊥
+
+-- ---- whether all of it can be told
+
+abbrev pub are_gates_told : List NamedField → InputNumbers → NamedField → Bool
+are_gates_told fields numbers g =
+    is_some (given_gate fields numbers.swwe numbers.swwel g.software.gate) && (is_some (given_gate fields numbers.we numbers.wel g.hardware.data_gate)
+    && (is_some (given_expr fields numbers.hwset g.hardware.set) && (is_some (given_expr fields numbers.hwclr g.hardware.clear)
+    && is_some (given_gate fields None None g.hardware.bit_gate))))
+
+abbrev pub is_position_told : List ℕ → NamedField → Bool
+is_position_told words g = is_some (word_number words g.spot.word) && (is_some (small g.spot.lsb) && (is_some (small g.spot.width) && is_some (small g.start.reset)))
+
+abbrev pub is_told_with : List ℕ → List NamedField → InputNumbers → NamedField → Bool
+is_told_with words fields numbers g = is_position_told words g && (are_gates_told fields numbers g && is_extra_told fields numbers g.extra)
+
+abbrev pub is_told : List ℕ → List NamedField → ℕ → NamedField → Bool
+is_told words fields base g = is_told_with words fields (numbers_from base g.inputs) g
+
+abbrev pub are_told : List ℕ → List NamedField → ℕ → List NamedField → Bool
+are_told words fields base [] = true
+are_told words fields base (g ∷ gs) = is_told words fields base g && are_told words fields (base + count_at g) gs

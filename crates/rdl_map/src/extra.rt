@@ -1,7 +1,7 @@
 //! Counters and interrupts by numbers.
 
-ghost use Rattle.std.specs.Prelude.{◌≡◌, ◌<◌, ◌++◌, length, IfOk, IfSome, OnOk};
-ghost use Rattle.rdl_map.specs.Given.{small};
+ghost use Rattle.std.specs.Prelude.{◌≡◌, ◌<◌, ◌++◌, length, is_some, None, IfOk, IfSome, OnOk};
+ghost use Rattle.rdl_map.specs.Given.{given_gate, small};
 ghost use Rattle.rdl_map.specs.Extras as spec;
 
 use crate::gate::{given_expr, given_gate};
@@ -28,7 +28,8 @@ fn counter_of(
     counter: &NamedCounter,
 ) -> Option<Counter>
     requires { length fields.now < 4294967296 }
-    ensures { IfSome result (λ c. spec.IsCounterOf fields.now numbers counter.now c) }
+    ensures counter { IfSome result (λ c. spec.IsCounterOf fields.now numbers counter.now c) }
+    ensures told { is_some result ≡ spec.is_counter_told fields.now numbers counter.now }
 {
     let incr = given_expr(fields, numbers.incr, &counter.incr)?;
     let decr = given_expr(fields, numbers.decr, &counter.decr)?;
@@ -129,7 +130,8 @@ fn intr_of(
     intr: &NamedIntr,
 ) -> Result<Option<Intr>, AllocError>
     requires { length fields.now < 4294967296 }
-    ensures { IfOk result (λ o. IfSome o (λ i. spec.IsIntrOf fields.now number register intr.now i)) }
+    ensures intr { IfOk result (λ o. IfSome o (λ i. spec.IsIntrOf fields.now number register intr.now i)) }
+    ensures told { IfOk result (λ o. is_some o ≡ is_some (given_gate fields.now None None intr.now.filter)) }
 {
     let Some(filter) = given_gate(fields, None, None, &intr.filter) else {
         return Ok(None);
@@ -153,7 +155,8 @@ pub fn extra_of(
     extra: &NamedExtra,
 ) -> Result<Option<Extra>, AllocError>
     requires { length fields.now < 4294967296 }
-    ensures { IfOk result (λ o. IfSome o (λ e. spec.IsExtraOf fields.now numbers number register extra.now e)) }
+    ensures extra { IfOk result (λ o. IfSome o (λ e. spec.IsExtraOf fields.now numbers number register extra.now e)) }
+    ensures told { IfOk result (λ o. is_some o ≡ spec.is_extra_told fields.now numbers extra.now) }
 {
     match extra {
         NamedExtra::Plain => Ok(Some(Extra::Plain)),

@@ -1,7 +1,7 @@
 //! A field of a register map, by what the description says of it.
 
-ghost use Rattle.std.specs.Prelude.{◌≡◌, ◌≤◌, ◌<◌, length, IfOk, IfSome};
-ghost use Rattle.rdl_map.specs.Given.{word_number};
+ghost use Rattle.std.specs.Prelude.{◌≡◌, ◌≤◌, ◌<◌, length, is_some, IfOk, IfSome};
+ghost use Rattle.rdl_map.specs.Given.{small, word_number};
 ghost use Rattle.rdl_map.specs.Extras.{is_intr};
 ghost use Rattle.rdl_map.specs.Fields as spec;
 
@@ -37,7 +37,7 @@ fn word_number(words: &[u32], address: u64) -> Option<u32>
 }
 
 fn small_width(width: u128) -> Option<u32>
-    ensures { IfSome result (λ n. n ≡ width) }
+    ensures { result ≡ small width }
 {
     if width < 4_294_967_296 {
         Some(width as u32)
@@ -49,7 +49,8 @@ fn small_width(width: u128) -> Option<u32>
 // Where a field stands and what it starts with, where the word is there and all numbers have 32 bits.
 fn position_of(words: &[u32], field: &NamedField) -> Option<Position>
     requires { length words.now < 4294967296 }
-    ensures { IfSome result (λ p. spec.IsPositionOf words.now field.now p) }
+    ensures position { IfSome result (λ p. spec.IsPositionOf words.now field.now p) }
+    ensures told { is_some result ≡ spec.is_position_told words.now field.now }
 {
     let word = word_number(words, field.spot.word)?;
     let lsb = small(field.spot.lsb)?;
@@ -138,7 +139,8 @@ fn field_with(
 ) -> Result<Option<Field>, AllocError>
     requires words { length words.now < 4294967296 }
     requires fields { length fields.now < 4294967296 }
-    ensures { IfOk result (λ o. IfSome o (λ f. spec.IsFieldWith words.now fields.now number numbers given.now f)) }
+    ensures field { IfOk result (λ o. IfSome o (λ f. spec.IsFieldWith words.now fields.now number numbers given.now f)) }
+    ensures told { IfOk result (λ o. is_some o ≡ spec.is_told_with words.now fields.now numbers given.now) }
 {
     let Some(position) = position_of(words, given) else {
         return Ok(None);
@@ -168,7 +170,8 @@ pub fn field_of(
     requires words { length words.now < 4294967296 }
     requires fields { length fields.now < 4294967296 }
     requires base { base ≤ 4294967286 }
-    ensures { IfOk result (λ o. IfSome o (λ f. spec.IsFieldOf words.now fields.now number base given.now f)) }
+    ensures field { IfOk result (λ o. IfSome o (λ f. spec.IsFieldOf words.now fields.now number base given.now f)) }
+    ensures told { IfOk result (λ o. is_some o ≡ spec.is_told words.now fields.now base given.now) }
 {
     field_with(
         alloc,

@@ -1,7 +1,7 @@
 //! What gates a field and changes it, by numbers.
 
-ghost use Rattle.std.specs.Prelude.{◌≡◌, ◌<◌, length, IfSome};
-ghost use Rattle.rdl_map.specs.Fields.{AreGates};
+ghost use Rattle.std.specs.Prelude.{◌≡◌, ◌<◌, length, is_some, IfSome};
+ghost use Rattle.rdl_map.specs.Fields.{AreGates, are_gates_told};
 ghost use Rattle.rdl_map.specs.Given as spec;
 
 use crate::signal::InputNumbers;
@@ -62,7 +62,8 @@ pub fn given_gate(
 /// What gates a field and changes it, none where what is named isn't there.
 pub fn gates_of(fields: &[NamedField], numbers: InputNumbers, field: &NamedField) -> Option<Gates>
     requires { length fields.now < 4294967296 }
-    ensures { IfSome result (λ gates. AreGates fields.now numbers field.now gates) }
+    ensures gates { IfSome result (λ gates. AreGates fields.now numbers field.now gates) }
+    ensures told { is_some result ≡ are_gates_told fields.now numbers field.now }
 {
     let sw_gate = given_gate(fields, numbers.swwe, numbers.swwel, &field.software.gate)?;
     let data_gate = given_gate(fields, numbers.we, numbers.wel, &field.hardware.data_gate)?;

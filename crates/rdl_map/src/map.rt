@@ -1,8 +1,8 @@
 //! The register map of a description.
 
-ghost use Rattle.std.specs.Prelude.{◌≡◌, ◌≤◌, ◌<◌, true, length, IfOk, IfSome};
+ghost use Rattle.std.specs.Prelude.{◌≡◌, ◌≤◌, ◌<◌, true, length, is_some, IfOk, IfSome};
 ghost use Rattle.std.specs.List.{list_all};
-ghost use Rattle.rdl_map.specs.Fields.{AreFrom};
+ghost use Rattle.rdl_map.specs.Fields.{AreFrom, are_told};
 ghost use Rattle.rdl_map.specs.Maps as spec;
 
 use crate::field::field_of;
@@ -47,7 +47,8 @@ fn numbered_fields(
 ) -> Result<Option<Vec<Field>>, AllocError>
     requires words { length words.now < 4294967296 }
     requires fields { length fields.now < 134217728 }
-    ensures { IfOk result (λ o. IfSome o (λ fs. AreFrom words.now fields.now 0 0 fields.now fs.items)) }
+    ensures fields { IfOk result (λ o. IfSome o (λ fs. AreFrom words.now fields.now 0 0 fields.now fs.items)) }
+    ensures told { IfOk result (λ o. is_some o ≡ are_told words.now fields.now 0 fields.now) }
 {
     let mut out = Vec::new(alloc);
     let mut base = 0;
@@ -86,7 +87,8 @@ fn map_of(
     requires words { length words.items < 4294967296 }
     requires fields { length fields.now < 134217728 }
     requires narrow { list_all spec.is_narrow fields.now ≡ true }
-    ensures { IfOk result (λ o. IfSome o (λ m. spec.IsBuiltOf bus_width words.items fields.now m)) }
+    ensures map { IfOk result (λ o. IfSome o (λ m. spec.IsBuiltOf bus_width words.items fields.now m)) }
+    ensures told { IfOk result (λ o. is_some o ≡ are_told words.items fields.now 0 fields.now) }
 {
     let Some(numbered) = numbered_fields(alloc, words.as_slice(), fields)? else {
         return Ok(None);
@@ -107,9 +109,11 @@ fn checked_map(
     words: Vec<u32>,
     fields: &[NamedField],
 ) -> Result<Option<Parts>, AllocError>
-    ensures { IfOk result (λ o. IfSome o (λ m. spec.IsBuiltOf bus_width words.items fields.now m)) }
+    ensures map { IfOk result (λ o. IfSome o (λ m. spec.IsBuiltOf bus_width words.items fields.now m)) }
+    ensures told { IfOk result (λ o. is_some o ≡ spec.is_map_told words.items fields.now) }
 {
-    if words.len() < 4_294_967_296 && fields.len() < 134_217_728 && are_narrow(fields) {
+    let few = words.len() < 4_294_967_296 && fields.len() < 134_217_728;
+    if few && are_narrow(fields) {
         map_of(alloc, bus_width, words, fields)
     } else {
         Ok(None)
@@ -119,7 +123,7 @@ fn checked_map(
 /// The register map of a description, none where its parts can't all be told: a reference names no
 /// field, a word or a number has over 32 bits.
 pub fn parts_of(alloc: Global, file: &RdlFile) -> Result<Option<Parts>, AllocError>
-    ensures { IfOk result (λ o. IfSome o (λ m. spec.IsMapOf file.now m)) }
+    ensures { IfOk result (λ o. spec.IsMapAnswer file.now o) }
 {
     let notes = notes_of(alloc, file)?;
     let bus_width = bus_of(notes.registers.as_slice());
