@@ -1,7 +1,7 @@
 -- Effective values (SystemRDL 2.0, clause 5.1.3, "Property assignment"): a property of an instance has the value of the outermost
 -- assignment to a path that leads to it; else that of the assignment in its component's body; else that of the nearest default
 -- before that body in a body around it in the text. A value that the property doesn't take counts as none.
-use Rattle.std.specs.Prelude.{ℕ, Bool, true, false, not, ◌&&◌, ◌==◌, if◌then◌else◌, List, [], ◌∷◌, Option, Some, None, is_some, length, slice_get, ◌-◌}
+use Rattle.std.specs.Prelude.{ℕ, suc, Bool, true, false, not, ◌&&◌, ◌==◌, if◌then◌else◌, List, [], ◌∷◌, Option, Some, None, is_some, length, slice_get, ◌-◌}
 use Rattle.std.specs.List.{list_any}
 use Rattle.std.specs.Option.{option_and_then}
 use Rattle.rdl_tree.specs.declared.tree.RdlIndex.{RdlIndex}
@@ -75,6 +75,11 @@ target_in property frames (t ∷ ts) = or_else (if is_property property t.prop &
 abbrev pub dynamic_at : Trail → Property → Option RdlProp
 dynamic_at [] property = None
 dynamic_at (f ∷ fs) property = or_else (target_in property (f ∷ fs) f.targets) (dynamic_at fs property)
+
+-- how many instances stand around the body with that assignment; all where there is none
+abbrev pub depth_at : Trail → Property → ℕ
+depth_at [] property = 0
+depth_at (f ∷ fs) property = if is_some (target_in property (f ∷ fs) f.targets) then 0 else suc (depth_at fs property)
 
 abbrev pub own_at : Trail → Property → Option RdlProp
 own_at t property = option_and_then (λ f. assigned_in property f.own) (here_of t)

@@ -1,6 +1,6 @@
 //! Effective values.
 
-ghost use Rattle.std.specs.Prelude.{◌≡◌, length, false, None};
+ghost use Rattle.std.specs.Prelude.{◌≡◌, ◌≤◌, length, false, None};
 ghost use Rattle.rdl_tree.specs.declared.tree.RdlProp.{RdlProp};
 ghost use Rattle.std.specs.Option.{option_map, option_and_then};
 ghost use Rattle.rdl_text.specs.Chains.{nows};
@@ -146,6 +146,21 @@ fn dynamic_at<'a>(trail: &[Frame<'a>], property: Property) -> Option<&'a RdlProp
         }
     }
     None
+}
+
+/// How many instances of a trail stand around the body with the outermost assignment to a path that
+/// leads to its end; all of them where there is none.
+pub fn depth_at(trail: &[Frame<'_>], property: Property) -> usize
+    ensures depth { result ≡ spec.depth_at trail.now property }
+    ensures inside { result ≤ length trail.now }
+{
+    for depth in 0..trail.len() {
+        let outer = &trail[depth];
+        if target_in(property, &trail[depth..], outer.targets).is_some() {
+            return depth;
+        }
+    }
+    trail.len()
 }
 
 fn own_at<'a>(trail: &[Frame<'a>], property: Property) -> Option<&'a RdlProp>

@@ -1,0 +1,5 @@
+pub mod Signals
+pub mod Given
+pub mod Extras
+pub mod Fields
+pub mod Maps
