@@ -1,11 +1,10 @@
 -- What a description is refused for, by code and place: names before properties before values before places before sizes, and of
 -- one code the first in the text. What asks for effective values counts where there aren't too many instances.
-use Rattle.std.specs.Prelude.{◌≡◌, ◌⊎◌, ℕ, ◌+◌, Bool, true, false, ◌||◌, nat_lt, List, [], ◌∷◌, length, min, Contains, Option, Some, None}
+use Rattle.std.specs.Prelude.{◌≡◌, ◌⊎◌, ℕ, Bool, true, false, ◌||◌, nat_lt, List, length, Contains, Option, Some, None, sum_by}
 use Rattle.bit_base.specs.declared.place.Place.{Place}
 use Rattle.bit_base.specs.Places.{is_before}
 use Rattle.rdl_tree.specs.declared.fault.RdlFault.{RdlFault}
 use Rattle.rdl_tree.specs.declared.fault.RdlFault.TheVariants.{NoMemory, At}
-use Rattle.rdl_tree.specs.declared.fault.RdlCode.{RdlCode}
 use Rattle.rdl_tree.specs.declared.fault.RdlCode.TheVariants.{RdlName, RdlProperty, RdlValue, RdlPlace, RdlSize}
 use Rattle.rdl_tree.specs.declared.tree.RdlFile.{RdlFile}
 use Rattle.rdl_text.specs.declared.text.Check.TheVariants as check
@@ -37,14 +36,13 @@ IsValue file p = text.IsFault check.Values file p ⊎ (IsFew file × (IsConflict
 abbrev pub IsPlace : RdlFile → Place → Type 0
 IsPlace file p = IsFew file × (Contains (misplaced_of file) p ⊎ IsClash (spots_of (registers_of file)) p)
 
--- the bits of all fields, counted up to 4,097
-abbrev pub bits_from : ℕ → List Register → ℕ
-bits_from so_far [] = so_far
-bits_from so_far (r ∷ rs) = bits_from (min (so_far + r.bits) 4097) rs
+-- the bits of all fields
+abbrev pub bits_in : List Register → ℕ
+bits_in rs = sum_by (λ (r : Register). r.bits) rs
 
 -- over 1,024 bus words or 4,096 bits of fields
 abbrev pub is_large : List Register → Bool
-is_large rs = nat_lt 1024 (length (spots_of rs)) || nat_lt 4096 (bits_from 0 rs)
+is_large rs = nat_lt 1024 (length (spots_of rs)) || nat_lt 4096 (bits_in rs)
 
 abbrev pub whole : Place
 whole = record { file = 0; line = 0; column = 0 }

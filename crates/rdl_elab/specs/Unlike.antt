@@ -1,5 +1,5 @@
 -- Registers with unlike accesses (the widths of a bus word), refused at the later of each two.
-use Rattle.std.specs.Prelude.{◌≡◌, ◌≢◌, ℕ, false, not, ◌==◌, List, [], ◌∷◌, ◌++◌, Contains, Some, slice_get, if◌then◌else◌}
+use Rattle.std.specs.Prelude.{◌≡◌, ◌≢◌, ℕ, false, not, ◌==◌, List, [], ◌∷◌, ◌++◌, Some, slice_get, if◌then◌else◌}
 use Rattle.bit_base.specs.declared.place.Place.{Place}
 use Rattle.bit_base.specs.Places.{is_before}
 use Rattle.rdl_text.specs.Names.{place_if}

@@ -1,6 +1,6 @@
 //! What a description is refused for.
 
-ghost use Rattle.std.specs.Prelude.{◌≡◌, IfOk, IfErr};
+ghost use Rattle.std.specs.Prelude.{◌≡◌, min, IfOk, IfErr};
 ghost use Rattle.rdl_text.specs.Refusals.{IsFault};
 ghost use Rattle.rdl_effects.specs.Limits.{has_too_many};
 ghost use Rattle.rdl_effects.specs.Refusals.{IsConflict};
@@ -144,7 +144,7 @@ fn first_place(
 
 // The bits of the fields of registers, counted up to 4,097.
 fn bits_of(registers: &[Register]) -> u64
-    ensures { result ≡ spec.bits_from 0 registers.now }
+    ensures { result ≡ min (spec.bits_in registers.now) 4097 }
 {
     let mut so_far = 0;
     for register in registers {

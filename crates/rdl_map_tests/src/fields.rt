@@ -72,6 +72,8 @@ addrmap x { reg { field {} f; } c; }; addrmap a { x b; x d @ 0x100; };\n\
 b.c.f 0 0 0+1 rw ? =0 < > value; d.c.f 256 256 0+1 rw ? =0 < > value\n\
 reg r { field {} f = 0; }; addrmap a { r x, y; reg r { field {} g = 0; } z; r w; };\n\
 x.f 0 0 0+1 rw =0 < > value; y.f 4 4 0+1 rw =0 < > value; z.g 8 8 0+1 rw =0 < > value; w.g 12 12 0+1 rw =0 < > value\n\
+addrmap uart { default regwidth = 32; default sw = rw; default hw = r; reg { field { desc = \"enable\"; } en = 0; field {} div[15:8] = 8'h1B; } ctrl; reg { default onwrite = woclr; field { hwset; } rx = 0; field { hwset; } tx = 0; } status; reg { field {} mask[2] = 0; } ie; reg { field { sw = r; hw = w; we; onread = rclr; } d[8] = 0; } data; reg { field { sw = w; singlepulse; } go = 0; } cmd; reg { field { sw = r; hw = na; } ver[16] = 16'h0102; } id; regfile { reg { field {} lo[16] = 0; } t; } ch[4] @ 0x40; ctrl.div->swwel = ctrl.en; };\n\
+ctrl.en 0 0 0+1 rw =0 < > value; ctrl.div 0 0 8+8 rw swwel:ctrl.en =27 < > value; status.rx 4 4 0+1 rw woclr =0 hwset:in < hwset > value; status.tx 4 4 1+1 rw woclr =0 hwset:in < hwset > value; ie.mask 8 8 0+2 rw =0 < > value; data.d 12 12 0+8 r rclr =0 data we:in < data we >; cmd.go 16 16 0+1 w =0 pulse < > value; id.ver 20 20 0+16 r =258 < >; ch[0].t.lo 64 64 0+16 rw =0 < > value; ch[1].t.lo 68 68 0+16 rw =0 < > value; ch[2].t.lo 72 72 0+16 rw =0 < > value; ch[3].t.lo 76 76 0+16 rw =0 < > value\n\
 ";
 
 #[test]

@@ -172,6 +172,8 @@ addrmap a { reg { field { hwset; } f; f -> we = g; } c; };\n\
 \n\
 addrmap a { reg { field {} f; } c @ 0x100000000; };\n\
 \n\
+addrmap uart { default regwidth = 32; default sw = rw; default hw = r; reg { field { desc = \"enable\"; } en = 0; field {} div[15:8] = 8'h1B; } ctrl; reg { default onwrite = woclr; field { hwset; } rx = 0; field { hwset; } tx = 0; } status; reg { field {} mask[2] = 0; } ie; reg { field { sw = r; hw = w; we; onread = rclr; } d[8] = 0; } data; reg { field { sw = w; singlepulse; } go = 0; } cmd; reg { field { sw = r; hw = na; } ver[16] = 16'h0102; } id; regfile { reg { field {} lo[16] = 0; } t; } ch[4] @ 0x40; ctrl.div->swwel = ctrl.en; };\n\
+32 0 4 8 12 16 20 64 68 72 76; ctrl.en 0 0+1; ctrl.div 0 8+8 swwel:f0; status.rx 1 0+1 hwset:i0; status.tx 1 1+1 hwset:i1; ie.mask 2 0+2; data.d 3 0+8 data:i2 we:i3; cmd.go 4 0+1; id.ver 5 0+16; ch[0].t.lo 6 0+16; ch[1].t.lo 7 0+16; ch[2].t.lo 8 0+16; ch[3].t.lo 9 0+16 < 2 hwset+1 3 hwset+1 5 data+8 5 we+1\n\
 ";
 
 #[test]

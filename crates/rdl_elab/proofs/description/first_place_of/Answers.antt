@@ -1,5 +1,4 @@
 use Rattle.std.proofs.Common.{◌⊎◌, List, Contains, ◌∙◌, subst}
-use Rattle.bit_base.specs.declared.place.Place.{Place}
 use Rattle.rdl_layout.specs.declared.register.Register.{Register}
 use Rattle.rdl_layout.specs.Registers.{registers_of, misplaced_of}
 use Rattle.rdl_words.specs.Words.{spots_of}

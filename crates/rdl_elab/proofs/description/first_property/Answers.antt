@@ -3,7 +3,6 @@ use Rattle.rdl_text.specs.declared.text.Check.TheVariants as check
 use Rattle.rdl_text.specs.Refusals.{IsFault}
 use Rattle.rdl_effects.specs.declared.effect.Effect.TheVariants as effect
 use Rattle.rdl_effects.specs.Refusals.{IsConflict}
-use Rattle.rdl_elab.specs.Firsts.{IsFirstOf}
 use Rattle.rdl_elab.specs.Refusals.{IsFew}
 use Rattle.rdl_elab.proofs.Firsts.{either, counts, passed}
 use Rattle.rdl_elab.proofs.description.first_property.Goals as goal

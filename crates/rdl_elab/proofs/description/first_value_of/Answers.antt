@@ -1,5 +1,4 @@
-use Rattle.std.proofs.Common.{◌⊎◌, ◌≡◌, Option, List, ◌∙◌, subst, ap}
-use Rattle.bit_base.specs.declared.place.Place.{Place}
+use Rattle.std.proofs.Common.{◌⊎◌, List, ◌∙◌, subst}
 use Rattle.rdl_text.specs.declared.text.Check.TheVariants as check
 use Rattle.rdl_text.specs.Refusals.{IsFault}
 use Rattle.rdl_effects.specs.declared.effect.Effect.TheVariants as effect
