@@ -59,7 +59,7 @@ one_low true = refl
 one_low false = refl
 
 -- what is there at a number in range
-there : {X : Type 0} (xs : List X) (n m : ℕ) → length xs ≡ m → IsTrue (nat_lt n m) → (x : X) × (slice_get xs n ≡ Some x)
+pub there : {X : Type 0} (xs : List X) (n m : ℕ) → length xs ≡ m → IsTrue (nat_lt n m) → (x : X) × (slice_get xs n ≡ Some x)
 there xs n m e h = elim (slice_get_cases xs n).1 [
   | inl p ↦ (p.0, p.2)
   | inr p ↦ absurd (let lt : n < m = ltb-true n m h in omega (arith, p.0))

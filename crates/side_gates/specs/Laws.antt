@@ -1,15 +1,27 @@
 -- The law that the side of hardware by bits is the register machine's.
-use Rattle.std.specs.Prelude.{◌≡◌, ℕ, ◌<◌, ◌^◌, Bool, List, map}
+use Rattle.std.specs.Prelude.{◌≡◌, ℕ, ◌<◌, ◌^◌, Bool, List, Some, length, map, slice_get}
+use Rattle.std.specs.declared.vec.Vec.{Vec}
+use Rattle.std.specs.declared.alloc.Global.{Global}
 use Rattle.std.specs.List.{range_with_len}
 use Rattle.bit_base.specs.Numbers.{low_bits}
 use Rattle.field_policies.specs.declared.field.Field.{Field}
 use Rattle.field_policies.specs.declared.extra.Extra.TheVariants as extra
 use Rattle.field_policies.specs.declared.extra.Counter.{Counter}
 use Rattle.field_policies.specs.declared.extra.Intr.{Intr}
+use Rattle.field_policies.specs.declared.signal.HwInput.{HwInput}
+use Rattle.field_policies.specs.Fields.{EachExpr, is_in_range, has_width}
 use Rattle.field_policies.specs.Expressions.{input_value}
+use Rattle.gate_graph.specs.declared.wires.Wire.{Wire}
+use Rattle.gate_graph.specs.declared.nodes.Node.{Node}
+use Rattle.gate_graph.specs.Gates.{Respects}
+use Rattle.word_gates.specs.Words.{Shows}
+use Rattle.expr_gates.specs.declared.view.FieldView.{FieldView}
+use Rattle.expr_gates.specs.Laws.{AreViews}
+use Rattle.side_gates.specs.declared.source.SourceGates.{SourceGates}
+use Rattle.side_gates.specs.Graphs.{IsSource}
 use Rattle.reg_machine.specs.Steps as machine
 use Rattle.reg_machine.specs.Steps.{View}
-use Rattle.side_gates.specs.Sides.{Source, plain_active, plain_bits, counter_active, counter_bits, count_at, intr_active, intr_bits}
+use Rattle.side_gates.specs.Sides.{source_at, Source, plain_active, plain_bits, counter_active, counter_bits, count_at, intr_active, intr_bits}
 
 -- what is seen is what the register machine sees of the field's hardware, where the field's value is v
 pub record SeesSource (w : View) (f : Field) (v : ℕ) (s : Source) : Type 0 where
@@ -22,6 +34,13 @@ pub record SeesSource (w : View) (f : Field) (v : ℕ) (s : Source) : Type 0 whe
   pub given_fits : input_value w.hw f.data_in < 2 ^ f.width
   pub value : s.value ≡ low_bits f.width v
   pub value_fits : v < 2 ^ f.width
+
+-- what its expressions read is there, each with the bits that it asks for
+pub record IsReadable (fields : List Field) (inputs : List HwInput) (f : Field) : Type 0 where
+  pub in_range : EachExpr (is_in_range (length fields) (length inputs)) (is_in_range (length fields) (length inputs)) f
+  pub widths : EachExpr (has_width fields inputs 1) (has_width fields inputs f.width) f
+  pub source : (k : ℕ) → f.data_in ≡ Some k → k < length inputs
+  pub source_width : (k : ℕ) (h : HwInput) → f.data_in ≡ Some k → slice_get inputs k ≡ Some h → h.width ≡ f.width
 
 abbrev pub places : Field → (ℕ → Bool) → List Bool
 places f bits = map bits (range_with_len 0 f.width)
@@ -40,3 +59,11 @@ CounterSideIsMachines = (w : View) (f : Field) (v : ℕ) (s : Source) (c : Count
 
 abbrev pub IntrSideIsMachines : Type 0
 IntrSideIsMachines = (w : View) (f : Field) (v : ℕ) (s : Source) (n : Intr) → SeesSource w f v s → f.extra ≡ extra.Intr n → IsSide w f v (intr_active n.sticky s) (intr_bits n.sticky f.width s)
+
+-- what hardware gives to a field, as wires, is what the register machine sees of it
+abbrev pub SourcesAreMachines : Type 0
+SourcesAreMachines = (nodes : List Node) (fields : List Field) (inputs : List HwInput) (w : (ℕ → Bool) → View) (views : List FieldView) (hw : List (Vec Wire Global)) (f : Field) (s : SourceGates)
+    (value : List Wire) (n : (ℕ → Bool) → ℕ)
+    → AreViews nodes fields inputs w views hw → IsReadable fields inputs f → IsSource f views hw s
+    → Shows nodes value (λ v. low_bits f.width (n v)) → ((v : ℕ → Bool) → n v < 2 ^ f.width) → ((v : ℕ → Bool) → input_value (w v).hw f.data_in < 2 ^ f.width)
+    → (v : ℕ → Bool) → Respects v nodes → SeesSource (w v) f (n v) (source_at v s value)

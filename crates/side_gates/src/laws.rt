@@ -1,6 +1,6 @@
 //! Laws of the side of hardware, as functions that do nothing: each one's contract is the law.
 
-ghost use Rattle.side_gates.specs.Laws.{PlainSideIsMachines, CounterSideIsMachines, IntrSideIsMachines};
+ghost use Rattle.side_gates.specs.Laws.{PlainSideIsMachines, CounterSideIsMachines, IntrSideIsMachines, SourcesAreMachines};
 
 /// The side of a plain field gives what the register machine gives.
 pub fn plain_side_is_machines()
@@ -15,4 +15,9 @@ pub fn counter_side_is_machines()
 /// The side of an interrupt field gives what the register machine gives.
 pub fn intr_side_is_machines()
     ensures { IntrSideIsMachines }
+{}
+
+/// What hardware gives to a field, as wires, is what the register machine sees of it.
+pub fn sources_are_machines()
+    ensures { SourcesAreMachines }
 {}
