@@ -21,7 +21,7 @@ pub struct Price {
 }
 
 /// A cost, `LIMIT` where it is more.
-fn capped(cost: u128) -> u64
+pub fn capped(cost: u128) -> u64
     ensures { result ≡ min cost limit }
 {
     if cost < LIMIT as u128 {
@@ -140,7 +140,7 @@ fn resize_price(size: u32, a: Price) -> Price
 }
 
 /// How many bits the net of this number has; none where there is no such net.
-fn width_of(nets: &[Net], net: u32) -> u32
+pub fn width_of(nets: &[Net], net: u32) -> u32
     ensures { result ≡ (net_at nets.now net).width }
 {
     match nets.get(net as usize) {
