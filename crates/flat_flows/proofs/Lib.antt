@@ -1,0 +1,4 @@
+pub mod ReadNodes
+pub mod Growing
+pub mod Places
+pub mod WalkLemmas
