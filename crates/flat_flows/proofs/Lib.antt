@@ -2,3 +2,5 @@ pub mod ReadNodes
 pub mod Growing
 pub mod Places
 pub mod WalkLemmas
+pub mod Spreading
+pub mod Matching

@@ -3,6 +3,7 @@
 
 pub mod bit_set;
 pub mod found;
+pub mod full;
 pub mod left;
 pub mod marks;
 pub mod range;
