@@ -1,12 +1,13 @@
 -- Labels, and whether each word has one.
 use Rattle.std.proofs.Common.{◌≡◌, ℕ, zero, suc, ◌<◌, ◌≤◌, ◌+◌, ◌^◌, Bool, true, false, not, ◌&&◌, ◌||◌, List, [], ◌∷◌, map, Option, Some, None, refl, sym, ◌∙◌, ap, arith, add-one, inl, inr}
-use Rattle.std.specs.Prelude.{is_some, nat_lt, nat_le}
+use Rattle.std.specs.Prelude.{is_some, nat_lt, nat_le, Result, Ok, Err, IfOk}
 use Rattle.std.specs.List.{list_all, list_any}
 use Rattle.std.proofs.lemmas.Bool.{cases_Bool}
 use Rattle.std.proofs.lemmas.Bool.Decides.{nat_tests}
 use Rattle.bit_base.specs.Numbers.{low_bits}
 use Rattle.bit_base.specs.Operators.{each_place, differ, are_all, or_of, xnor_of}
 use Rattle.flat_design.specs.declared.net.Net.{Net}
+use Rattle.flat_design.specs.declared.stmt.FlatArm.{FlatArm}
 use Rattle.flat_design.specs.declared.stmt.FlatLabel.{FlatLabel}
 use Rattle.flat_design.specs.Reads.{constant_in}
 use Rattle.flat_design.specs.Statements.{matches_label}
@@ -14,6 +15,7 @@ use Rattle.std.proofs.Math.Nat.{pow-succ'}
 use Rattle.flat_design.specs.Flows.{all_match, no_values, Spread, LabelTest, is_full}
 use Rattle.flat_design.proofs.Frames.{expr_framed}
 use Rattle.flat_flows.specs.Ranges.{constant_is}
+use Rattle.flat_flows.specs.Arms.{tests_of}
 
 careless_or : (care same : List Bool) → or_of (map not care) same ≡ each_place (λ care same. not care || same) care same
 careless_or [] same = refl
@@ -109,3 +111,7 @@ all_match_more n size matches all one = rw (add-one) (and_more (all_match n size
 
 pub all_match_at : (n m size : ℕ) (matches : List Bool → Bool) → n ≡ m → all_match n size matches ≡ true → all_match m size matches ≡ true
 all_match_at n m size matches e all = ap (λ k. all_match k size matches) (sym e) ∙ all
+
+pub has_arms : {E : Type 0} (r : Result Bool E) (s : Spread) (arms : List FlatArm) → ((nets : List Net) → IfOk r (λ full. full ≡ is_full s (tests_of nets arms))) → IfOk r (λ full. full ≡ true → arms ≡ [] → ⊥)
+has_arms (Ok b) s arms h = λ on none. cc (sym on ∙ h [] ∙ ap (λ l. is_full s (tests_of [] l)) none ∙ no_arms s)
+has_arms (Err e) s arms h = h []

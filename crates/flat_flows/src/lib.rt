@@ -8,3 +8,4 @@ pub mod left;
 pub mod marks;
 pub mod range;
 pub mod reading;
+pub mod walk;
