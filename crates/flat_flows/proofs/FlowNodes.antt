@@ -1,5 +1,5 @@
 -- The flow of a statement, by its kind.
-use Rattle.std.proofs.Common.{◌≡◌, Bool, List, [], ◌∷◌, map, Option, Some, None, refl, sym, ◌∙◌, ap}
+use Rattle.std.proofs.Common.{◌≡◌, Bool, List, [], ◌∷◌, map, Option, Some, None, refl, ◌∙◌, ap}
 use Rattle.std.specs.Prelude.{if◌then◌else◌}
 use Rattle.flat_design.specs.declared.net.Net.{Net}
 use Rattle.flat_design.specs.declared.expr.FlatExpr.{FlatExpr}
@@ -11,7 +11,7 @@ use Rattle.flat_design.specs.declared.stmt.FlatStmt.TheFolds.{fold-FlatArm}
 use Rattle.flat_design.specs.Reads.{reads}
 use Rattle.flat_design.specs.Flows as f
 use Rattle.flat_design.specs.Flows.{Flow, ArmFlow, flow, flow_layer, flow_arms, assign_flow, all_before, before, either, reading, label_reads, test_of, is_full, spread, no_path, idle}
-use Rattle.flat_flows.specs.Arms.{tests_of, other_flow, arm_before, arms_before, is_closed, default_flow}
+use Rattle.flat_flows.specs.Arms.{tests_of, other_flow, arms_before, is_closed, default_flow}
 use Rattle.flat_design.proofs.Folds as folds
 
 unfoldable pub arm_flow : List Net → FlatArm → ArmFlow

@@ -1,5 +1,5 @@
 -- Labels, and whether each word has one.
-use Rattle.std.proofs.Common.{◌≡◌, ℕ, zero, suc, ◌<◌, ◌≤◌, ◌+◌, ◌^◌, Bool, true, false, not, ◌&&◌, ◌||◌, List, [], ◌∷◌, map, Option, Some, None, refl, sym, ◌∙◌, ap, arith, add-one, inl, inr}
+use Rattle.std.proofs.Common.{◌≡◌, ℕ, zero, suc, ◌<◌, ◌≤◌, ◌+◌, ◌^◌, Bool, true, false, not, ◌&&◌, ◌||◌, List, [], ◌∷◌, map, Some, None, refl, sym, ◌∙◌, ap, arith, add-one, inl, inr}
 use Rattle.std.specs.Prelude.{is_some, nat_lt, nat_le, Result, Ok, Err, IfOk}
 use Rattle.std.specs.List.{list_all, list_any}
 use Rattle.std.proofs.lemmas.Bool.{cases_Bool}
@@ -14,7 +14,6 @@ use Rattle.flat_design.specs.Statements.{matches_label}
 use Rattle.std.proofs.Math.Nat.{pow-succ'}
 use Rattle.flat_design.specs.Flows.{all_match, no_values, Spread, LabelTest, is_full}
 use Rattle.flat_design.proofs.Frames.{expr_framed}
-use Rattle.flat_flows.specs.Ranges.{constant_is}
 use Rattle.flat_flows.specs.Arms.{tests_of}
 
 careless_or : (care same : List Bool) → or_of (map not care) same ≡ each_place (λ care same. not care || same) care same
@@ -68,9 +67,9 @@ none_of false = refl
 pub not_all_match : (n k size : ℕ) (matches : List Bool → Bool) → k < n → matches (low_bits size k) ≡ false → all_match n size matches ≡ false
 not_all_match zero k size matches h off = absurd (omega arith)
 not_all_match (suc n) k size matches h off = elim (cases_Bool (nat_lt k n)) [
-    | inl less ↦ (let l : k < n = grind (arith, nat_tests) in ap (λ b. b && matches (low_bits size n)) (not_all_match n k size matches l off))
-    | inr more ↦ (let e : k ≡ n = grind (arith, nat_tests) in ap (λ b. all_match n size matches && b) (ap (λ m. matches (low_bits size m)) (sym e) ∙ off) ∙ none_of (all_match n size matches))
-  ]
+  | inl less ↦ (let l : k < n = grind (arith, nat_tests) in ap (λ b. b && matches (low_bits size n)) (not_all_match n k size matches l off))
+  | inr more ↦ (let e : k ≡ n = grind (arith, nat_tests) in ap (λ b. all_match n size matches && b) (ap (λ m. matches (low_bits size m)) (sym e) ∙ off) ∙ none_of (all_match n size matches))
+]
 
 -- ---- full cases
 

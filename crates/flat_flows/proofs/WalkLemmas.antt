@@ -8,7 +8,7 @@ use Rattle.flat_orders.specs.Orders.{among}
 use Rattle.flat_flows.specs.declared.found.Found.{Found}
 use Rattle.flat_flows.specs.Tables.{in_table, Grows, Gains}
 use Rattle.flat_flows.specs.Walks.{Same, Fixes, Adds, Walked}
-use Rattle.flat_flows.proofs.Growing.{grows_none, grows_both, grows_as, or_assoc}
+use Rattle.flat_flows.proofs.Growing.{grows_none, grows_both, or_assoc}
 
 among_both : (i : ℕ) (xs ys : List ℕ) → among i (xs ++ ys) ≡ (among i xs || among i ys)
 among_both i xs ys = list_any-append (λ j. j == i) xs ys
@@ -190,13 +190,13 @@ pub if_walked : (set : ℕ → Bool) (f g : Flow) (sure s1 s2 : List Bool) (old 
     → ((i : ℕ) → among i both ≡ (among i b && (in_table s2 i || among i a))) → Walked (before (reading set) (either f g)) sure old new both
 if_walked set f g sure s1 s2 old m1 m2 new a b both read same first same1 second same2 is =
     walked_after_reading set (either f g) sure old m1 new both read same
-      (walked_either f g sure m1 m2 new a b both first (walked_same g sure s1 m2 new b same1 second) (λ i. is i ∙ ap (λ x. among i b && (x || among i a)) (same2 i ∙ same1 i)))
+    (walked_either f g sure m1 m2 new a b both first (walked_same g sure s1 m2 new b same1 second) (λ i. is i ∙ ap (λ x. among i b && (x || among i a)) (same2 i ∙ same1 i)))
 
 pub case_walked : (set : ℕ → Bool) (d whole : Flow) (sure s1 : List Bool) (old m1 m2 new : Found) (fixed : List ℕ) → Grows old.reads set sure m1.reads → old.drives ≡ m1.drives → Adds d sure m1 m2 → Same s1 sure
     → (Adds d s1 m1 m2 → Adds whole s1 m1 new) → Fixes whole s1 fixed → Walked (before (reading set) whole) sure old new fixed
 case_walked set d whole sure s1 old m1 m2 new fixed read same first same1 rest fixes =
     walked_after_reading set whole sure old m1 new fixed read same
-      (walked_same whole sure s1 m1 new fixed same1 (record { adds = rest (adds_same d s1 sure m1 m2 (λ i. sym (same1 i)) first); fixes = fixes }))
+    (walked_same whole sure s1 m1 new fixed same1 (record { adds = rest (adds_same d s1 sure m1 m2 (λ i. sym (same1 i)) first); fixes = fixes }))
 
 -- ---- answers
 

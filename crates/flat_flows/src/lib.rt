@@ -4,6 +4,7 @@
 pub mod bit_set;
 pub mod found;
 pub mod full;
+pub mod item;
 pub mod left;
 pub mod marks;
 pub mod range;

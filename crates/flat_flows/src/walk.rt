@@ -9,12 +9,12 @@ ghost use Rattle.flat_flows.specs.Walks.{Same, Fixes, Adds, Walked};
 ghost use Rattle.flat_flows.specs.Arms.{other_flow, arm_before, arms_before, is_closed, default_flow};
 ghost use Rattle.flat_flows.specs.declared.found.Found.{Found};
 
+use crate::bit_set::BitSet;
 use crate::found::Found;
 use crate::full::is_full_case;
 use crate::left::{add_left_drives, left_fixes};
 use crate::marks::Marks;
 use crate::reading::{add_left_reads, add_reads};
-use crate::bit_set::BitSet;
 use flat_design::expr::FlatExpr;
 use flat_design::net::Net;
 use flat_design::stmt::{FlatArm, FlatLabel, FlatLeft, FlatStmt};
@@ -244,7 +244,11 @@ pub fn walk_stmt(
             let second = walk_other(alloc, nets, no, sure, found)?;
             common(alloc, first.as_slice(), second.as_slice(), sure)
         }
-        FlatStmt::Case { selector, arms, other } => {
+        FlatStmt::Case {
+            selector,
+            arms,
+            other,
+        } => {
             add_reads(alloc, nets, selector, sure, &mut found.reads)?;
             let closed = is_closed(alloc, selector, arms.as_slice(), other)?;
             let last = walk_default(alloc, nets, closed, other, sure, found)?;

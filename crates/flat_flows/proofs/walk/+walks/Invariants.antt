@@ -1,4 +1,4 @@
-use Rattle.std.proofs.Common.{◌≡◌, ℕ, ◌||◌, ◌++◌, List, Bool, map, drop, length}
+use Rattle.std.proofs.Common.{◌≡◌, ℕ, ◌||◌, ◌++◌, List, map, drop, length}
 use Rattle.std.specs.Prelude.{MatchOption, None, false}
 use Rattle.flat_design.specs.Flows as spec
 use Rattle.flat_orders.specs.Orders.{among}
