@@ -1,0 +1,3 @@
+pub mod WalkNodes
+pub mod PathLemmas
+pub mod Leasts
