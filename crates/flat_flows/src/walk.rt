@@ -177,7 +177,7 @@ fn walk_arms(
 }
 
 /// Whether no path goes past the arms of a case: it has no default, and is full.
-fn is_closed(
+pub fn is_closed(
     alloc: Global,
     selector: &FlatExpr,
     arms: &[FlatArm],
