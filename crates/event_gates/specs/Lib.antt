@@ -1,2 +1,4 @@
 pub mod Events
 pub mod Graphs
+pub mod Laws
+pub mod Places

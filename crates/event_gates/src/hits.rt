@@ -25,6 +25,8 @@ pub struct EventGates {
     pub payload: Vec<Wire>,
     /// A wire for each byte of the bus.
     pub strobe: Vec<Wire>,
+    /// Whether the answer at an address that no word has is an error.
+    pub unmapped_error: bool,
 }
 
 /// Whether the event reads a word, and whether it writes it.

@@ -97,7 +97,7 @@ expressions nodes fields inputs w views hw (Xored n) views_are h =
     rw g.1 (shows_same _ _ _ _ (one_wire nodes g.0.xored g.0 f.0 n w is_odd odd_below odd_low (views_are.value n f.0 g.0 f.1 g.1) (views_are.xored n g.0 g.1)) (λ v r. rw (views_are.fields_are v, f.1) refl))
 
 -- a wire's inverse
-value_inverse : (v : ℕ → Bool) (w : Wire) → wire_value v (inverse w) ≡ not (wire_value v w)
+pub value_inverse : (v : ℕ → Bool) (w : Wire) → wire_value v (inverse w) ≡ not (wire_value v w)
 value_inverse v w = elim (cases_Bool (w.0 % 2 == 0)) [
   | inl t ↦
       let even : w.0 % 2 ≡ 0 = eqb-true (w.0 % 2) 0 t in
@@ -118,22 +118,22 @@ value_inverse v w = elim (cases_Bool (w.0 % 2 == 0)) [
     not_not true = refl
     not_not false = refl
 
-of_inverse : (nodes : List Node) (w : Wire) → IsOf w nodes → IsOf (inverse w) nodes
+pub of_inverse : (nodes : List Node) (w : Wire) → IsOf w nodes → IsOf (inverse w) nodes
 of_inverse nodes w h = elim (cases_Bool (w.0 % 2 == 0)) [
   | inl t ↦ let even : w.0 % 2 ≡ 0 = eqb-true (w.0 % 2) 0 t in let n : (inverse w).0 ≡ w.0 + 1 = rw t refl in omega arith
   | inr f ↦ let n : (inverse w).0 ≡ w.0 - 1 = rw f refl in omega arith
 ]
 
-values_inverse : (v : ℕ → Bool) (a : List Wire) → values v (map inverse a) ≡ map not (values v a)
+pub values_inverse : (v : ℕ → Bool) (a : List Wire) → values v (map inverse a) ≡ map not (values v a)
 values_inverse v [] = refl
 values_inverse v (x ∷ a) = rw (value_inverse v x, values_inverse v a) refl
 
-of_inverses : (nodes : List Node) (a : List Wire) → AreOf a nodes → AreOf (map inverse a) nodes
+pub of_inverses : (nodes : List Node) (a : List Wire) → AreOf a nodes → AreOf (map inverse a) nodes
 of_inverses nodes [] h = are_of_none nodes
 of_inverses nodes (x ∷ a) h = are_of_cons (inverse x) (map inverse a) nodes (of_inverse nodes x (h.each 0 x refl)) (of_inverses nodes a record { each = λ i w at. h.each (suc i) w at })
 
 -- the first wire of a word, and its value where the word shows one bit
-first_of : (nodes : List Node) (wires : List Wire) → HasZero nodes → AreOf wires nodes → IsOf (get_or wires 0 off) nodes
+pub first_of : (nodes : List Node) (wires : List Wire) → HasZero nodes → AreOf wires nodes → IsOf (get_or wires 0 off) nodes
 first_of nodes [] z h = (means_zero nodes off z refl).of
 first_of nodes (x ∷ wires) z h = h.each 0 x refl
 
@@ -157,7 +157,7 @@ unfolding is_given
 given nodes fields inputs w views hw None views_are h wide = means_zero nodes off views_are.zero refl
 given nodes fields inputs w views hw (Some e) views_are h wide = one_bit nodes fields inputs w views hw e views_are (h e refl) (wide e refl)
 
-means_on : (nodes : List Node) → HasZero nodes → Means nodes on (λ v. true)
+pub means_on : (nodes : List Node) → HasZero nodes → Means nodes on (λ v. true)
 means_on nodes z = record { of = let zero_of : IsOf off nodes = (means_zero nodes off z refl).of in omega (arith, zero_of); value = λ v r. value_one v nodes on z r refl }
 
 as_bit_means : (nodes : List Node) (wire : Wire) (high : Bool) (b : (ℕ → Bool) → Bool) → Means nodes wire b → Means nodes (as_bit wire high) (λ v. if high then b v else not (b v))

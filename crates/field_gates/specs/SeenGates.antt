@@ -3,6 +3,7 @@ use Rattle.std.specs.Prelude.{◌≡◌, ℕ, Bool, not, ◌&&◌, ◌||◌, Lis
 use Rattle.bit_base.specs.Operators.{are_all}
 use Rattle.field_policies.specs.declared.field.Field.{Field}
 use Rattle.gate_graph.specs.declared.nodes.Node.{Node}
+use Rattle.gate_graph.specs.declared.wires.Wire.{Wire}
 use Rattle.gate_graph.specs.Gates.{wire_value, IsOf, AreOf}
 use Rattle.reg_machine.specs.Steps.{is_whole}
 use Rattle.word_gates.specs.Words.{values}
@@ -34,6 +35,35 @@ pub record AreSides (nodes : List Node) (s : SideGates) : Type 0 where
   pub software_of : IsOf s.software nodes
   pub by_software_of : IsOf s.by_software nodes
   pub by_hardware_of : IsOf s.by_hardware nodes
+
+-- the same as lists of wires
+pub record SeenWires : Type 0 where
+  pub reads : Wire
+  pub allowed : Wire
+  pub used : Wire
+  pub known : Wire
+  pub active : Wire
+  pub whole : Wire
+  pub enabled : List Wire
+  pub payload : List Wire
+  pub value : List Wire
+  pub side : List Wire
+  pub opened : List Wire
+
+abbrev pub seen_wires : SeenGates → SeenWires
+seen_wires s = record {
+  reads = s.reads;
+  allowed = s.allowed;
+  used = s.used;
+  known = s.known;
+  active = s.active;
+  whole = s.whole;
+  enabled = s.enabled.items;
+  payload = s.payload.items;
+  value = s.value.items;
+  side = s.side.items;
+  opened = s.opened.items;
+}
 
 -- what is seen where each node i has the value v i
 abbrev pub seen_at : (ℕ → Bool) → SeenGates → Seen

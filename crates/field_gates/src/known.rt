@@ -5,7 +5,7 @@ ghost use Rattle.bit_base.specs.Operators.{are_all};
 ghost use Rattle.reg_machine.specs.Steps.{is_whole};
 ghost use Rattle.gate_graph.specs.Gates.{wire_value, IsOf, AreOf, Extends, Means};
 ghost use Rattle.word_gates.specs.Words.{values};
-ghost use Rattle.field_gates.specs.SeenGates.{AreSeen, AreSides, known_at};
+ghost use Rattle.field_gates.specs.SeenGates.{AreSeen, AreSides, known_at, seen_wires};
 ghost use Rattle.field_gates.specs.StepGraphs.{covered_made, by_write_made, either_made, known_made};
 
 use crate::step::{SeenGates, SideGates};
@@ -97,7 +97,7 @@ pub fn known_wire(
     requires room { length graph.old + field.now.width + 7 < 2 ^ 31 }
     ensures nodes { Extends graph.old graph.new (field.now.width + 7) }
     ensures wire { IfOk result (λ w. Means graph.new w (λ v. known_at v field.now seen.now sides)) }
-    ensures exact { IfOk result (λ w. known_made field.now graph.old seen.now sides ≡ (w, graph.new)) }
+    ensures exact { IfOk result (λ w. known_made field.now graph.old (seen_wires seen.now) sides ≡ (w, graph.new)) }
 {
     let covered = covered_wire(graph, alloc, &seen.enabled)?;
     let soft = by_write_wire(graph, field, sides, covered)?;

@@ -4,7 +4,7 @@ ghost use Rattle.std.specs.Prelude.{◌≡◌, ℕ, Bool, ◌+◌, ◌*◌, ◌^
 ghost use Rattle.gate_graph.specs.Gates.{Extends, Means};
 ghost use Rattle.word_gates.specs.Words.{Shows};
 ghost use Rattle.field_gates.specs.FieldStep.{is_written, is_software, by_software, by_hardware, next_word, next_used, next_known};
-ghost use Rattle.field_gates.specs.SeenGates.{AreSeen, seen_at};
+ghost use Rattle.field_gates.specs.SeenGates.{AreSeen, seen_at, seen_wires};
 ghost use Rattle.field_gates.specs.StepGraphs.{sides_made, step_made};
 
 use crate::known::known_wire;
@@ -82,7 +82,7 @@ fn sides(graph: &mut Graph, field: &Field, seen: &SeenGates) -> Result<SideGates
     ensures software { IfOk result (λ s. Means graph.new s.software (λ v. is_software field.now (seen_at v seen.now))) }
     ensures by_software { IfOk result (λ s. Means graph.new s.by_software (λ v. by_software field.now (seen_at v seen.now))) }
     ensures by_hardware { IfOk result (λ s. Means graph.new s.by_hardware (λ v. by_hardware field.now (seen_at v seen.now))) }
-    ensures exact { IfOk result (λ s. sides_made field.now graph.old seen.now ≡ (s, graph.new)) }
+    ensures exact { IfOk result (λ s. sides_made field.now graph.old (seen_wires seen.now) ≡ (s, graph.new)) }
 {
     let written = written_wire(graph, field, &seen.enabled, seen.allowed, seen.used)?;
     let software = software_wire(graph, field, written, seen.reads)?;
@@ -112,7 +112,7 @@ pub fn field_step(
     ensures value { IfOk result (λ s. Shows graph.new s.value.items (λ v. next_word field.now (seen_at v seen.now))) }
     ensures used { IfOk result (λ s. Means graph.new s.used (λ v. next_used field.now (seen_at v seen.now))) }
     ensures known { IfOk result (λ s. Means graph.new s.known (λ v. next_known field.now (seen_at v seen.now))) }
-    ensures exact { IfOk result (λ s. step_made field.now graph.old seen.now ≡ ((s.software, (s.value.items, (s.used, s.known))), graph.new)) }
+    ensures exact { IfOk result (λ s. step_made field.now graph.old (seen_wires seen.now) ≡ ((s.software, (s.value.items, (s.used, s.known))), graph.new)) }
 {
     let sides = sides(graph, field, seen)?;
     let soft = software_word(

@@ -38,6 +38,13 @@ impl NumberSet {
         Ok(NumberSet { table, members })
     }
 
+    /// The bound: only numbers below it can be in the set.
+    pub fn bound(&self) -> usize
+        ensures { result ≡ length self.now }
+    {
+        self.table.len()
+    }
+
     /// Whether the number is in the set.
     pub fn has(&self, number: usize) -> bool
         requires { number < length self.now }

@@ -35,7 +35,7 @@ if_map : (t : Bool) (a b : ℕ → Bool) (xs : List ℕ) → (if t then map a xs
 if_map true a b xs = refl
 if_map false a b xs = refl
 
-or_three : (a b c : Bool) → (a || (b || c)) ≡ (a || b || c)
+pub or_three : (a b c : Bool) → (a || (b || c)) ≡ (a || b || c)
 or_three true b c = refl
 or_three false b c = refl
 

@@ -25,6 +25,18 @@ pub record AreSources (nodes : List Node) (width : ℕ) (s : SourceGates) : Type
   pub given_of : AreOf s.given.items nodes
   pub given_length : length s.given.items ≡ width
 
+-- the same as lists of wires
+pub record SourceWires : Type 0 where
+  pub taken : Wire
+  pub set : Wire
+  pub clear : Wire
+  pub incr : Wire
+  pub decr : Wire
+  pub given : List Wire
+
+abbrev pub source_wires : SourceGates → SourceWires
+source_wires s = record { taken = s.taken; set = s.set; clear = s.clear; incr = s.incr; decr = s.decr; given = s.given.items }
+
 -- what hardware gives to a field, no gates
 abbrev pub data_made : List (Vec Wire Global) → ℕ → Option ℕ → List Wire
 data_made hw width None = replicate width off
@@ -56,15 +68,15 @@ any_four_made ns a b c d =
     or_made three.1 a three.0
 
 -- the side of each kind: whether it is active, then its bits
-unfoldable pub plain_made : List Node → SourceGates → List Wire → (Wire × List Wire) × List Node
+unfoldable pub plain_made : List Node → SourceWires → List Wire → (Wire × List Wire) × List Node
 plain_made ns s value =
     let active = any_three_made ns s.taken s.set s.clear in
-    let taken = between_made active.1 s.given.items value s.taken in
+    let taken = between_made active.1 s.given value s.taken in
     let bits = forced_made taken.1 s.set s.clear taken.0 in
     ((active.0, bits.0), bits.1)
 
 -- a counter's, and whether it goes over and under
-unfoldable pub counter_made : Counter → List Node → SourceGates → List Wire → (Wire × (List Wire × (Wire × Wire))) × List Node
+unfoldable pub counter_made : Counter → List Node → SourceWires → List Wire → (Wire × (List Wire × (Wire × Wire))) × List Node
 counter_made c ns s value =
     let active = any_four_made ns s.incr s.decr s.set s.clear in
     let count = counted_made c active.1 value s.incr s.decr in

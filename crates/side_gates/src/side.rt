@@ -5,7 +5,7 @@ ghost use Rattle.gate_graph.specs.Gates.{AreOf, Extends, Means};
 ghost use Rattle.word_gates.specs.Words.{values, Shows};
 ghost use Rattle.extra_gates.specs.Graphs.{interrupt_made};
 ghost use Rattle.side_gates.specs.Sides.{FitsCounter, count_at, counter_active, counter_bits, intr_active, intr_bits, plain_active, plain_bits, source_at};
-ghost use Rattle.side_gates.specs.Graphs.{AreSources, plain_made, counter_made};
+ghost use Rattle.side_gates.specs.Graphs.{AreSources, source_wires, plain_made, counter_made};
 
 use crate::kinds::{any_of_four, any_of_three, forced_word};
 use crate::source::SourceGates;
@@ -38,7 +38,7 @@ pub fn plain_gates(
     ensures length { IfOk result (λ g. length g.value.items ≡ length value.now) }
     ensures active { IfOk result (λ g. Means graph.new g.active (λ v. plain_active (source_at v source.now value.now))) }
     ensures value { IfOk result (λ g. Shows graph.new g.value.items (λ v. plain_bits (source_at v source.now value.now))) }
-    ensures exact { IfOk result (λ g. plain_made graph.old source.now value.now ≡ ((g.active, g.value.items), graph.new)) }
+    ensures exact { IfOk result (λ g. plain_made graph.old (source_wires source.now) value.now ≡ ((g.active, g.value.items), graph.new)) }
 {
     let active = any_of_three(graph, source.taken, source.set, source.clear)?;
     let taken = between(graph, alloc, &source.given, value, source.taken)?;
@@ -73,7 +73,7 @@ pub fn counter_gates(
     ensures value { IfOk result (λ g. Shows graph.new g.hardware.value.items (λ v. counter_bits counter.now (length value.now) (source_at v source.now value.now))) }
     ensures over { IfOk result (λ g. Means graph.new g.over (λ v. (count_at counter.now (length value.now) (source_at v source.now value.now)).over)) }
     ensures under { IfOk result (λ g. Means graph.new g.under (λ v. (count_at counter.now (length value.now) (source_at v source.now value.now)).under)) }
-    ensures exact { IfOk result (λ g. counter_made counter.now graph.old source.now value.now ≡ ((g.hardware.active, (g.hardware.value.items, (g.over, g.under))), graph.new)) }
+    ensures exact { IfOk result (λ g. counter_made counter.now graph.old (source_wires source.now) value.now ≡ ((g.hardware.active, (g.hardware.value.items, (g.over, g.under))), graph.new)) }
 {
     let active = any_of_four(graph, source.incr, source.decr, source.set, source.clear)?;
     let count = count_gates(graph, alloc, counter, value, source.incr, source.decr)?;

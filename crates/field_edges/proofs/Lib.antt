@@ -1,0 +1,4 @@
+pub mod GivenLemmas
+pub mod LoopLemmas
+pub mod MadeLemmas
+pub mod SeesLaws

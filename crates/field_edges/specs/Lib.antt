@@ -1,0 +1,4 @@
+pub mod Edges
+pub mod Given
+pub mod Kinds
+pub mod Made

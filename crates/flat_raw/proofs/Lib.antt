@@ -1,0 +1,5 @@
+pub mod Statements
+pub mod Rows
+pub mod Seen
+pub mod Targets
+pub mod Whole
