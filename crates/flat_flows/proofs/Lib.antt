@@ -4,3 +4,4 @@ pub mod Places
 pub mod WalkLemmas
 pub mod Spreading
 pub mod Matching
+pub mod FlowNodes

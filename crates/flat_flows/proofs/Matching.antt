@@ -1,19 +1,20 @@
 -- Labels, and whether each word has one.
-use Rattle.std.proofs.Common.{◌≡◌, ℕ, zero, suc, ◌<◌, ◌≤◌, ◌+◌, ◌^◌, Bool, true, false, not, ◌&&◌, ◌||◌, List, [], ◌∷◌, map, Option, Some, None, refl, sym, ◌∙◌, ap, arith, add-one, inl, inr}
-use Rattle.std.specs.Prelude.{is_some, nat_lt, nat_le}
+use Rattle.std.proofs.Common.{◌≡◌, ℕ, zero, suc, ◌<◌, ◌≤◌, ◌+◌, ◌^◌, Bool, true, false, not, ◌&&◌, ◌||◌, List, [], ◌∷◌, map, Some, None, refl, sym, ◌∙◌, ap, arith, add-one, inl, inr}
+use Rattle.std.specs.Prelude.{is_some, nat_lt, nat_le, Result, Ok, Err, IfOk}
 use Rattle.std.specs.List.{list_all, list_any}
 use Rattle.std.proofs.lemmas.Bool.{cases_Bool}
 use Rattle.std.proofs.lemmas.Bool.Decides.{nat_tests}
 use Rattle.bit_base.specs.Numbers.{low_bits}
 use Rattle.bit_base.specs.Operators.{each_place, differ, are_all, or_of, xnor_of}
 use Rattle.flat_design.specs.declared.net.Net.{Net}
+use Rattle.flat_design.specs.declared.stmt.FlatArm.{FlatArm}
 use Rattle.flat_design.specs.declared.stmt.FlatLabel.{FlatLabel}
 use Rattle.flat_design.specs.Reads.{constant_in}
 use Rattle.flat_design.specs.Statements.{matches_label}
 use Rattle.std.proofs.Math.Nat.{pow-succ'}
 use Rattle.flat_design.specs.Flows.{all_match, no_values, Spread, LabelTest, is_full}
 use Rattle.flat_design.proofs.Frames.{expr_framed}
-use Rattle.flat_flows.specs.Ranges.{constant_is}
+use Rattle.flat_flows.specs.Arms.{tests_of}
 
 careless_or : (care same : List Bool) → or_of (map not care) same ≡ each_place (λ care same. not care || same) care same
 careless_or [] same = refl
@@ -66,9 +67,9 @@ none_of false = refl
 pub not_all_match : (n k size : ℕ) (matches : List Bool → Bool) → k < n → matches (low_bits size k) ≡ false → all_match n size matches ≡ false
 not_all_match zero k size matches h off = absurd (omega arith)
 not_all_match (suc n) k size matches h off = elim (cases_Bool (nat_lt k n)) [
-    | inl less ↦ (let l : k < n = grind (arith, nat_tests) in ap (λ b. b && matches (low_bits size n)) (not_all_match n k size matches l off))
-    | inr more ↦ (let e : k ≡ n = grind (arith, nat_tests) in ap (λ b. all_match n size matches && b) (ap (λ m. matches (low_bits size m)) (sym e) ∙ off) ∙ none_of (all_match n size matches))
-  ]
+  | inl less ↦ (let l : k < n = grind (arith, nat_tests) in ap (λ b. b && matches (low_bits size n)) (not_all_match n k size matches l off))
+  | inr more ↦ (let e : k ≡ n = grind (arith, nat_tests) in ap (λ b. all_match n size matches && b) (ap (λ m. matches (low_bits size m)) (sym e) ∙ off) ∙ none_of (all_match n size matches))
+]
 
 -- ---- full cases
 
@@ -109,3 +110,7 @@ all_match_more n size matches all one = rw (add-one) (and_more (all_match n size
 
 pub all_match_at : (n m size : ℕ) (matches : List Bool → Bool) → n ≡ m → all_match n size matches ≡ true → all_match m size matches ≡ true
 all_match_at n m size matches e all = ap (λ k. all_match k size matches) (sym e) ∙ all
+
+pub has_arms : {E : Type 0} (r : Result Bool E) (s : Spread) (arms : List FlatArm) → ((nets : List Net) → IfOk r (λ full. full ≡ is_full s (tests_of nets arms))) → IfOk r (λ full. full ≡ true → arms ≡ [] → ⊥)
+has_arms (Ok b) s arms h = λ on none. cc (sym on ∙ h [] ∙ ap (λ l. is_full s (tests_of [] l)) none ∙ no_arms s)
+has_arms (Err e) s arms h = h []

@@ -1,5 +1,5 @@
 -- Places before place 0, by the number of the inverted word.
-use Rattle.std.proofs.Common.{◌≡◌, ℕ, ◌+◌, ◌*◌, ◌^◌, Bool, true, false, not, List, [], ◌∷◌, length, map, refl, arith}
+use Rattle.std.proofs.Common.{◌≡◌, ℕ, ◌+◌, ◌^◌, Bool, true, false, not, List, [], ◌∷◌, length, map, refl, arith}
 use Rattle.std.proofs.Math.Nat.{pow-succ'}
 use Rattle.bit_base.specs.Numbers.{number_of, sign_of}
 use Rattle.flat_design.specs.Bits.{offset_of}

@@ -1,5 +1,5 @@
 -- What an expression reads, by its kind of node.
-use Rattle.std.proofs.Common.{◌≡◌, ℕ, suc, ◌+◌, ◌<◌, Bool, ◌||◌, List, ◌∷◌, map, drop, length, get_or, Some, None, sym, ◌∙◌, ap, add-one}
+use Rattle.std.proofs.Common.{◌≡◌, ℕ, suc, ◌+◌, ◌-◌, ◌<◌, ◌≤◌, Bool, ◌||◌, List, [], ◌∷◌, map, drop, length, get_or, Some, None, refl, sym, ◌∙◌, ap, add-one, arith}
 use Rattle.std.proofs.Math.Seq.{drop-cons}
 use Rattle.flat_design.specs.declared.net.Net.{Net}
 use Rattle.flat_design.specs.declared.expr.FlatUnary.{FlatUnary}
@@ -62,3 +62,13 @@ no_constant nets e h = by (out-FlatNode e.node) (sym (roll-out-FlatNode e.node))
 
 pub rest_of : {A : Type 0} (xs : List A) (i : ℕ) (x : A) → i < length xs → x ≡ get_or xs i x → drop i xs ≡ x ∷ drop (i + 1) xs
 rest_of xs i x h is = rw (add-one) (drop-cons xs i x h ∙ ap (λ y. y ∷ drop (suc i) xs) (sym is))
+
+pub rest_before : {A : Type 0} (xs : List A) (i : ℕ) (x : A) → 0 < i → i ≤ length xs → x ≡ get_or xs (i - 1) x → drop (i - 1) xs ≡ x ∷ drop i xs
+rest_before xs i x h k is = let e : i - 1 + 1 ≡ i = omega arith in rest_of xs (i - 1) x (omega arith) is ∙ ap (λ n. x ∷ drop n xs) e
+
+pub no_rest : {A : Type 0} (xs : List A) (i : ℕ) → i ≤ 0 → drop i xs ≡ xs
+no_rest xs i h = let e : i ≡ 0 = omega arith in ap (λ n. drop n xs) e
+
+pub none_in : {A : Type 0} (xs : List A) → length xs ≤ 0 → xs ≡ []
+none_in [] h = refl
+none_in (x ∷ xs) h = absurd (omega arith)

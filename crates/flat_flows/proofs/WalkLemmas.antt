@@ -1,14 +1,14 @@
 -- Walks over parts of statements, one after the other and one beside the other.
-use Rattle.std.proofs.Common.{◌≡◌, ℕ, Bool, true, false, not, ◌||◌, ◌&&◌, List, [], ◌++◌, Option, Some, None, refl, sym, ◌∙◌, ap}
+use Rattle.std.proofs.Common.{◌≡◌, ℕ, Bool, true, false, not, ◌||◌, ◌&&◌, List, [], ◌∷◌, ◌++◌, refl, sym, ◌∙◌, ap, subst, append_assoc}
 use Rattle.std.proofs.lemmas.List.Folds.{list_any-append}
-use Rattle.std.specs.Prelude.{◌==◌}
+use Rattle.std.specs.Prelude.{◌==◌, Option, Some, None, MatchOption, Result, Ok, Err, IfOk, OnOk}
 use Rattle.flat_design.specs.Reads.{no_bits}
 use Rattle.flat_design.specs.Flows.{Flow, before, either, reading, idle}
 use Rattle.flat_orders.specs.Orders.{among}
 use Rattle.flat_flows.specs.declared.found.Found.{Found}
 use Rattle.flat_flows.specs.Tables.{in_table, Grows, Gains}
-use Rattle.flat_flows.specs.Walks.{Same, Fixes, Adds, Walked, MayFix}
-use Rattle.flat_flows.proofs.Growing.{grows_none, grows_both, grows_as, or_assoc}
+use Rattle.flat_flows.specs.Walks.{Same, Fixes, Adds, Walked}
+use Rattle.flat_flows.proofs.Growing.{grows_none, grows_both, or_assoc}
 
 among_both : (i : ℕ) (xs ys : List ℕ) → among i (xs ++ ys) ≡ (among i xs || among i ys)
 among_both i xs ys = list_any-append (λ j. j == i) xs ys
@@ -154,3 +154,60 @@ pub walked_either : (f g : Flow) (sure : List Bool) (old mid new : Found) (a b b
     → Walked (either f g) sure old new both
 walked_either f g sure old mid new a b both first second is =
     record { adds = adds_either f g sure old mid new first.adds second.adds; fixes = fixes_either f g sure a b both first.fixes second.fixes is }
+
+-- ---- whole statements
+
+append_none : (xs : List ℕ) → xs ++ [] ≡ xs
+append_none [] = refl
+append_none (x ∷ xs) = ap (λ l. x ∷ l) (append_none xs)
+
+-- what is sure after one statement more in a row
+pub sure_more : (start sure mid after : List Bool) (fixed own : List ℕ) (i : ℕ) → in_table sure i ≡ (in_table start i || among i fixed) → in_table mid i ≡ in_table sure i → in_table after i ≡ (in_table mid i || among i own) → in_table after i ≡ (in_table start i || among i (fixed ++ own))
+sure_more start sure mid after fixed own i was same is =
+    is ∙ ap (λ b. b || among i own) (same ∙ was) ∙ or_assoc (in_table start i) (among i fixed) (among i own) ∙ ap (λ b. in_table start i || b) (sym (among_both i fixed own))
+
+-- one statement more in a row
+pub row_more : (f g whole : Flow) (start sure mid after : List Bool) (old now next final : Found) (fixed own more : List ℕ)
+    → ((final : Found) (more : List ℕ) → Walked (before f g) sure now final more → Walked whole start old final (fixed ++ more))
+    → Walked f sure now next own → Same mid sure → ((i : ℕ) → in_table after i ≡ (in_table mid i || among i own)) → Walked g after next final more → Walked whole start old final ((fixed ++ own) ++ more)
+row_more f g whole start sure mid after old now next final fixed own more all one same is rest =
+    subst (λ l. Walked whole start old final l) (sym (append_assoc fixed own more)) (all final (own ++ more) (walked_before f g sure after now next final own more one (λ i. is i ∙ ap (λ b. b || among i own) (same i)) rest))
+
+pub row_end : (whole : Flow) (start sure : List Bool) (old final : Found) (fixed : List ℕ) → ((end : Found) (more : List ℕ) → Walked idle sure final end more → Walked whole start old end (fixed ++ more)) → Walked whole start old final fixed
+row_end whole start sure old final fixed all = subst (λ l. Walked whole start old final l) (append_none fixed) (all final [] (walked_idle sure final))
+
+taken_out : (s l : Bool) → (s || (not l && not s)) && not (not l && not s) ≡ s
+taken_out true true = refl
+taken_out true false = refl
+taken_out false true = refl
+taken_out false false = refl
+
+-- what a row fixes is taken out again
+pub sure_back : (f : Flow) (start sure : List Bool) (fixed : List ℕ) (i : ℕ) → in_table sure i ≡ (in_table start i || among i fixed) → Fixes f start fixed → (in_table sure i && not (among i fixed)) ≡ in_table start i
+sure_back f start sure fixed i was fixes = ap (λ b. b && not (among i fixed)) was ∙ ap (λ b. (in_table start i || b) && not b) (fixes i) ∙ taken_out (in_table start i) (f.leaves i)
+
+pub if_walked : (set : ℕ → Bool) (f g : Flow) (sure s1 s2 : List Bool) (old m1 m2 new : Found) (a b both : List ℕ) → Grows old.reads set sure m1.reads → old.drives ≡ m1.drives → Walked f sure m1 m2 a → Same s1 sure → Walked g s1 m2 new b → Same s2 s1
+    → ((i : ℕ) → among i both ≡ (among i b && (in_table s2 i || among i a))) → Walked (before (reading set) (either f g)) sure old new both
+if_walked set f g sure s1 s2 old m1 m2 new a b both read same first same1 second same2 is =
+    walked_after_reading set (either f g) sure old m1 new both read same
+    (walked_either f g sure m1 m2 new a b both first (walked_same g sure s1 m2 new b same1 second) (λ i. is i ∙ ap (λ x. among i b && (x || among i a)) (same2 i ∙ same1 i)))
+
+pub case_walked : (set : ℕ → Bool) (d whole : Flow) (sure s1 : List Bool) (old m1 m2 new : Found) (fixed : List ℕ) → Grows old.reads set sure m1.reads → old.drives ≡ m1.drives → Adds d sure m1 m2 → Same s1 sure
+    → (Adds d s1 m1 m2 → Adds whole s1 m1 new) → Fixes whole s1 fixed → Walked (before (reading set) whole) sure old new fixed
+case_walked set d whole sure s1 old m1 m2 new fixed read same first same1 rest fixes =
+    walked_after_reading set whole sure old m1 new fixed read same
+    (walked_same whole sure s1 m1 new fixed same1 (record { adds = rest (adds_same d s1 sure m1 m2 (λ i. sym (same1 i)) first); fixes = fixes }))
+
+-- ---- answers
+
+pub if_ok_map : {A E : Type 0} (r : Result A E) (P Q : A → Type 0) → ((x : A) → P x → Q x) → IfOk r P → IfOk r Q
+if_ok_map (Ok x) P Q f h = f x h
+if_ok_map (Err e) P Q f h = h
+
+pub if_ok_both : {A E : Type 0} (r : Result A E) (X : Type 0) (P Q : A → Type 0) → ((x : A) → X → P x → Q x) → OnOk r X → IfOk r P → IfOk r Q
+if_ok_both (Ok x) X P Q f k h = f x k h
+if_ok_both (Err e) X P Q f k h = h
+
+pub match_map : {A : Type 0} (o : Option A) (P : Type 0) (Q R : A → Type 0) → ((x : A) → Q x → R x) → MatchOption o P Q → MatchOption o P R
+match_map None P Q R f h = h
+match_map (Some x) P Q R f h = f x h

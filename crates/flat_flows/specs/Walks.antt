@@ -1,5 +1,5 @@
 -- What a walk over a statement finds, of its flow.
-use Rattle.std.specs.Prelude.{◌≡◌, ℕ, not, ◌&&◌, List, Bool, Option, Some, None, false}
+use Rattle.std.specs.Prelude.{◌≡◌, ℕ, not, ◌&&◌, List, Bool}
 use Rattle.flat_design.specs.Flows.{Flow}
 use Rattle.flat_orders.specs.Orders.{among}
 use Rattle.flat_flows.specs.declared.found.Found.{Found}
@@ -23,8 +23,3 @@ pub record Adds (f : Flow) (sure : List Bool) (old new : Found) : Type 0 where
 pub record Walked (f : Flow) (sure : List Bool) (old new : Found) (fixed : List ℕ) : Type 0 where
   pub adds : Adds f sure old new
   pub fixes : Fixes f sure fixed
-
--- the same, where no list stands for a part that no path goes through
-abbrev pub MayFix : Flow → List Bool → Option (List ℕ) → Type 0
-MayFix f sure None = (i : ℕ) → f.leaves i ≡ false
-MayFix f sure (Some fixed) = Fixes f sure fixed

@@ -13,7 +13,7 @@ ghost use Rattle.flat_flows.specs.Arms.{tests_of};
 use crate::left::is_constant;
 use crate::range::constant_of;
 use bit_base::bits::Bits;
-use bit_words::bitwise::{not_of, or_of, xnor_of, are_all};
+use bit_words::bitwise::{are_all, not_of, or_of, xnor_of};
 use bit_words::moves::extended_to;
 use bit_words::numbers::low_word;
 use flat_design::expr::{FlatExpr, FlatNode};

@@ -4,7 +4,9 @@
 pub mod bit_set;
 pub mod found;
 pub mod full;
+pub mod item;
 pub mod left;
 pub mod marks;
 pub mod range;
 pub mod reading;
+pub mod walk;

@@ -1,6 +1,5 @@
 use Rattle.std.proofs.Common.{◌∙◌, sym, ap}
 use Rattle.flat_design.specs.declared.expr.FlatNode.TheVariants as n
-use Rattle.flat_design.specs.Flows.{spread}
 use Rattle.flat_flows.proofs.Spreading.{spread_size, spread_wide, unspread_cut, unspread_other}
 use Rattle.flat_flows.proofs.full.+own_size.Goals as goal
 

@@ -11,19 +11,19 @@ returns-then-not-branch c nets =
     let words : c.word_count-words.result ≡ 2 ^ (spread c.args.selector.now).own = c.word_count-words.ensures ∙ ap (λ n. 2 ^ n) c.own_size-own.ensures in
     let less : c.loop-number.number < 2 ^ (spread c.args.selector.now).own = omega (arith, words) in
     sym (not_full (spread c.args.selector.now) (tests_of nets c.args.arms.now) c.loop-number.number less
-      (ap (λ w. list_any (λ t. t.matches w) (tests_of nets c.args.arms.now)) (sym (c.as_slice.ensures ∙ c.in_ok-word.ensures own))
-        ∙ sym (c.in_ok-arms_match.ensures nets (sym (c.have_constant_labels.ensures nets) ∙ c.if-not-have_constant_labels.false)) ∙ c.if-not-branch.true))
+    (ap (λ w. list_any (λ t. t.matches w) (tests_of nets c.args.arms.now)) (sym (c.as_slice.ensures ∙ c.in_ok-word.ensures own))
+    ∙ sym (c.in_ok-arms_match.ensures nets (sym (c.have_constant_labels.ensures nets) ∙ c.if-not-have_constant_labels.false)) ∙ c.if-not-branch.true))
 
 pub loop-number-preserved : goal.loop-number-preserved
 loop-number-preserved c nets =
     let own : (spread c.args.selector.now).own ≤ 8 = omega (arith, c.own_size-own.ensures) in
     all_match_more c.loop-number.number (spread c.args.selector.now).own (λ word. list_any (λ t. t.matches ((spread c.args.selector.now).widen word)) (tests_of nets c.args.arms.now)) (c.loop-number.invariant nets)
-      (ap (λ w. list_any (λ t. t.matches w) (tests_of nets c.args.arms.now)) (sym (c.as_slice.ensures ∙ c.in_ok-word.ensures own))
-        ∙ sym (c.in_ok-arms_match.ensures nets (sym (c.have_constant_labels.ensures nets) ∙ c.if-not-have_constant_labels.false)) ∙ c.if-not-branch.false)
+    (ap (λ w. list_any (λ t. t.matches w) (tests_of nets c.args.arms.now)) (sym (c.as_slice.ensures ∙ c.in_ok-word.ensures own))
+    ∙ sym (c.in_ok-arms_match.ensures nets (sym (c.have_constant_labels.ensures nets) ∙ c.if-not-have_constant_labels.false)) ∙ c.if-not-branch.false)
 
 pub returns : goal.returns
 returns c nets =
     let words : c.word_count-words.result ≡ 2 ^ (spread c.args.selector.now).own = c.word_count-words.ensures ∙ ap (λ n. 2 ^ n) c.own_size-own.ensures in
     let end : c.loop-number.number ≡ 2 ^ (spread c.args.selector.now).own = omega (arith, words) in
     sym (full (spread c.args.selector.now) (tests_of nets c.args.arms.now) (omega (arith, c.own_size-own.ensures)) (sym (c.have_constant_labels.ensures nets) ∙ c.if-not-have_constant_labels.false)
-      (all_match_at c.loop-number.number (2 ^ (spread c.args.selector.now).own) (spread c.args.selector.now).own (λ word. list_any (λ t. t.matches ((spread c.args.selector.now).widen word)) (tests_of nets c.args.arms.now)) end (c.loop-number.invariant nets)))
+    (all_match_at c.loop-number.number (2 ^ (spread c.args.selector.now).own) (spread c.args.selector.now).own (λ word. list_any (λ t. t.matches ((spread c.args.selector.now).widen word)) (tests_of nets c.args.arms.now)) end (c.loop-number.invariant nets)))

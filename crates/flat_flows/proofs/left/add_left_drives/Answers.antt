@@ -1,4 +1,4 @@
-use Rattle.std.proofs.Common.{◌≡◌, ◌∙◌, ◌||◌, sym, ap, drop, ◌+◌}
+use Rattle.std.proofs.Common.{◌∙◌, ◌||◌, sym, ap, drop, ◌+◌}
 use Rattle.flat_design.specs.Flows.{left_drives, part_drives}
 use Rattle.flat_flows.specs.Tables.{in_table}
 use Rattle.flat_flows.proofs.ReadNodes.{rest_of}

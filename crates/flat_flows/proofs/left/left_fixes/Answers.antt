@@ -1,4 +1,4 @@
-use Rattle.std.proofs.Common.{◌≡◌, ◌∙◌, ◌||◌, ◌&&◌, not, sym, ap, drop, ◌+◌}
+use Rattle.std.proofs.Common.{◌∙◌, ◌||◌, ◌&&◌, not, sym, ap, drop, ◌+◌}
 use Rattle.flat_design.specs.Flows.{left_fixes, part_fixes}
 use Rattle.flat_orders.specs.Orders.{among}
 use Rattle.flat_flows.specs.Tables.{in_table}

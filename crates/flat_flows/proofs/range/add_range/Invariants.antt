@@ -1,4 +1,4 @@
-use Rattle.std.proofs.Common.{◌≡◌, ℕ, Bool, List, ◌&&◌}
+use Rattle.std.proofs.Common.{Bool, List, ◌&&◌}
 use Rattle.std.specs.Prelude.{nat_le, nat_lt}
 use Rattle.flat_flows.specs.Tables.{Grows}
 use Rattle.flat_flows.proofs.range.add_range.Given as goal

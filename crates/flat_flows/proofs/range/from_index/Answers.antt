@@ -1,6 +1,6 @@
-use Rattle.std.proofs.Common.{◌∙◌, ◌+◌, ◌^◌, sym, ap, map, not, length, min, true}
-use Rattle.bit_base.specs.Numbers.{number_of, sign_of}
-use Rattle.flat_design.specs.Bits.{selected, Offset, offset_of}
+use Rattle.std.proofs.Common.{◌∙◌, ◌^◌, sym, ap, map, not, length, min}
+use Rattle.bit_base.specs.Numbers.{number_of}
+use Rattle.flat_design.specs.Bits.{selected, Offset}
 use Rattle.flat_flows.proofs.Places.{complement, offset_before}
 use Rattle.flat_flows.proofs.range.from_index.Goals as goal
 

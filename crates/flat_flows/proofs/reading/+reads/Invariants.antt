@@ -1,4 +1,4 @@
-use Rattle.std.proofs.Common.{◌≡◌, ℕ, Bool, List, map, drop}
+use Rattle.std.proofs.Common.{Bool, List, map, drop}
 use Rattle.flat_design.specs.Reads.{read, either_reads}
 use Rattle.flat_flows.specs.Tables.{Grows}
 use Rattle.flat_flows.proofs.reading.+reads.Given as goal

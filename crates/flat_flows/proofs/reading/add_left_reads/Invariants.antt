@@ -1,4 +1,4 @@
-use Rattle.std.proofs.Common.{◌≡◌, ℕ, Bool, List, map, drop}
+use Rattle.std.proofs.Common.{Bool, List, drop}
 use Rattle.flat_design.specs.Flows.{left_reads}
 use Rattle.flat_flows.specs.Tables.{Grows}
 use Rattle.flat_flows.proofs.reading.add_left_reads.Given as goal
