@@ -15,7 +15,7 @@ use sqlite_items::Boxed;
 use std::alloc::{AllocError, Global};
 
 /// The bits of a part of a left side: of the whole net where its index isn't constant.
-fn part_range(alloc: Global, nets: &[Net], part: &FlatLeft) -> Result<BitRange, AllocError>
+pub fn part_range(alloc: Global, nets: &[Net], part: &FlatLeft) -> Result<BitRange, AllocError>
     ensures { IfOk result (λ r. (i : ℕ) → in_range r i ≡ part_drives nets.now part.now i) }
 {
     match &part.index {
