@@ -1,0 +1,3 @@
+pub mod Leasts
+pub mod Steps
+pub mod Whole

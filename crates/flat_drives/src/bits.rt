@@ -6,6 +6,7 @@ ghost use Rattle.flat_flows.specs.Ranges.{in_range};
 ghost use Rattle.flat_flows.specs.Tables.{in_table};
 ghost use Rattle.flat_drives.specs.Drives as spec;
 ghost use Rattle.flat_drives.specs.Listed.{listed, nets_of};
+ghost use Rattle.flat_drives.specs.Least.{IsLeastNet};
 
 use crate::kinds::mark_row;
 use flat_design::net::Net;
@@ -13,6 +14,7 @@ use flat_design::stmt::FlatLeft;
 use flat_flows::marks::Marks;
 use flat_flows::range::BitRange;
 use flat_loads::drives::part_range;
+use flat_offences::least::least_of;
 use sqlite_items::at;
 use std::alloc::{AllocError, Global};
 use std::vec::Vec;
@@ -103,4 +105,12 @@ pub fn nets_of(alloc: Global, owners: &[u32], bits: &[usize]) -> Result<Vec<u32>
         push_net(&mut nets, owners, *bit)?;
     }
     Ok(nets)
+}
+
+/// The least of the nets of these bits.
+pub fn least_net(alloc: Global, owners: &[u32], bits: &[usize]) -> Result<Option<u32>, AllocError>
+    ensures { IfOk result (λ o. IsLeastNet owners.now (λ i. among i bits.now) o) }
+{
+    let nets = nets_of(alloc, owners, bits)?;
+    Ok(least_of(nets.as_slice()))
 }

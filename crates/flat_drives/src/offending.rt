@@ -1,6 +1,6 @@
 //! Offences of drivers.
 
-ghost use Rattle.std.specs.Prelude.{◌≡◌, ◌<◌, ◌≤◌, ◌&&◌, ◌||◌, ◌+◌, not, ℕ, true, length, take, Some, None, slice_get, OnOk, IfOk, IfSome, IfNone};
+ghost use Rattle.std.specs.Prelude.{◌≡◌, ◌<◌, ◌≤◌, ◌&&◌, ◌||◌, ◌+◌, not, ℕ, List, Option, true, length, take, Some, None, slice_get, OnOk, IfOk, IfSome, IfNone};
 ghost use Rattle.flat_design.specs.Systems.{item_flow};
 ghost use Rattle.flat_orders.specs.Orders.{among};
 ghost use Rattle.flat_flows.specs.Tables.{in_table};
@@ -8,9 +8,11 @@ ghost use Rattle.flat_raw.specs.Nets.{AreInRow};
 ghost use Rattle.flat_offences.specs.Owners.{AreOwners};
 ghost use Rattle.flat_offences.specs.Offences.{IsFirstOffence};
 ghost use Rattle.flat_drives.specs.Drives as spec;
-ghost use Rattle.flat_drives.specs.Listed.{nets_of};
+ghost use Rattle.flat_drives.specs.Least.{IsLeastNet};
+ghost use Rattle.flat_drives.specs.Known.{IsKnown};
+ghost use Rattle.flat_design.specs.declared.item.FlatItem.{FlatItem as ItemOf};
 
-use crate::bits::{nets_of, push_in, push_out, push_twice};
+use crate::bits::{least_net, push_in, push_out, push_twice};
 use crate::kinds::{given_bits, input_bits};
 use flat_design::item::FlatItem;
 use flat_design::net::Net;
@@ -80,6 +82,7 @@ fn push_item_twice(
 }
 
 /// What the bits of a design are: driven by some item, an input's, without need of a driver.
+#[derive(Drop)]
 pub struct Known {
     pub driven: Marks,
     pub inputs: Marks,
@@ -113,4 +116,76 @@ fn offending(
         &known.given,
     )?;
     Ok(bits)
+}
+
+/// The least net at a bit of which an item offends, after items that drive these bits.
+fn item_net(
+    alloc: Global,
+    nets: &[Net],
+    owners: &[u32],
+    known: &Known,
+    before: &Marks,
+    flow: &mut FlowSets,
+    item: &FlatItem,
+) -> Result<Option<u32>, AllocError>
+    ensures { (first all : List ItemOf) → IsKnown nets.now all known.now → ((i : ℕ) → in_table before.now i ≡ spec.driven nets.now first i) → IfOk result (λ o. IsLeastNet owners.now (spec.offending nets.now first all item.now) o) }
+{
+    let bits = offending(alloc, nets, known, before, flow, item)?;
+    let net = least_net(alloc, owners, bits.as_slice())?;
+    Ok(net)
+}
+
+/// For each item the least net at a bit of which it offends.
+fn item_nets(
+    alloc: Global,
+    nets: &[Net],
+    items: &[FlatItem],
+    owners: &[u32],
+    known: &Known,
+) -> Result<Vec<Option<u32>>, AllocError>
+    requires { IsKnown nets.now items.now known.now }
+    ensures long { IfOk result (λ found. length found.items ≡ length items.now) }
+    ensures each { IfOk result (λ found. (k : ℕ) (x : ItemOf) (o : Option ℕ) → slice_get items.now k ≡ Some x → slice_get found.items k ≡ Some o → IsLeastNet owners.now (spec.offending nets.now (take k items.now) items.now x) o) }
+{
+    let mut found = Vec::new(alloc);
+    let mut before = Marks::new(alloc);
+    let mut flow = FlowSets::new(alloc);
+    for item in items {
+        let net = item_net(alloc, nets, owners, known, &before, &mut flow, item)?;
+        found.push(net)?;
+        add_drives(alloc, nets, &mut before, &mut flow, item)?;
+    }
+    Ok(found)
+}
+
+/// What the bits of a design are.
+fn bits_known(alloc: Global, nets: &[Net], items: &[FlatItem]) -> Result<Known, AllocError>
+    ensures { IfOk result (λ known. IsKnown nets.now items.now known) }
+{
+    let driven = driven(alloc, nets, items)?;
+    let inputs = input_bits(alloc, nets)?;
+    let given = given_bits(alloc, nets)?;
+    Ok(Known {
+        driven,
+        inputs,
+        given,
+    })
+}
+
+/// The first offence of the drivers: a bit with two drivers, at the later one; a bit that stands twice in the left side of an
+/// assignment; an input that is driven; a bit without a driver that is read and needs one.
+pub fn drive_offence(
+    alloc: Global,
+    nets: &[Net],
+    items: &[FlatItem],
+) -> Result<Option<Offence>, AllocError>
+    requires row { AreInRow nets.now }
+    requires few { length nets.now < 4294967296 }
+    ensures first { IfOk result (λ o. IfSome o (λ f. IsFirstOffence items.now (spec.Offends nets.now items.now) f)) }
+    ensures none { IfOk result (λ o. IfNone o ((k n : ℕ) → spec.Offends nets.now items.now k n → ⊥)) }
+{
+    let owners = owners(alloc, nets)?;
+    let known = bits_known(alloc, nets, items)?;
+    let found = item_nets(alloc, nets, items, owners.as_slice(), &known)?;
+    Ok(first_offence(items, found.as_slice()))
 }
