@@ -12,7 +12,7 @@ use flat_flows::range::BitRange;
 use std::alloc::{AllocError, Global};
 
 /// The bits of a net.
-fn row_of(net: &Net) -> BitRange
+pub fn row_of(net: &Net) -> BitRange
     ensures { (i : ℕ) → in_range result i ≡ of_net net.now i }
 {
     let first = net.first as usize;

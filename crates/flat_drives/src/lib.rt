@@ -4,3 +4,4 @@
 pub mod bits;
 pub mod kinds;
 pub mod offending;
+pub mod open;
