@@ -1,0 +1,4 @@
+pub mod Leasts
+pub mod Steps
+pub mod Whole
+pub mod Opens

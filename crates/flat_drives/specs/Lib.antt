@@ -1,0 +1,4 @@
+pub mod Drives
+pub mod Listed
+pub mod Least
+pub mod Known

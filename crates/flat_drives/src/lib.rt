@@ -1,0 +1,7 @@
+//! Drivers of bits: two drivers, none, and driven inputs.
+#![tactic(auto)]
+
+pub mod bits;
+pub mod kinds;
+pub mod offending;
+pub mod open;
