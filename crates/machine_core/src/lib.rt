@@ -2,5 +2,7 @@
 #![tactic(auto)]
 
 pub mod around;
+pub mod edge;
 
 pub use around::{Around, around_gates};
+pub use edge::{CoreGates, core_gates};
