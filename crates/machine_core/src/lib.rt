@@ -3,6 +3,7 @@
 
 pub mod around;
 pub mod edge;
+pub mod laws;
 
 pub use around::{Around, around_gates};
 pub use edge::{CoreGates, core_gates};
