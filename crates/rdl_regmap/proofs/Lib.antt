@@ -1,0 +1,17 @@
+pub mod Has
+pub mod Visits
+pub mod Trails
+pub mod Depths
+pub mod Bodies
+pub mod Instances
+pub mod Forms
+pub mod Effective
+pub mod References
+pub mod Told
+pub mod Placed
+pub mod Givens
+pub mod Fine
+pub mod Words
+pub mod Tells
+pub mod Sums
+pub mod MapTold

@@ -1,0 +1,4 @@
+//! The register map of a description, or what the description is refused for.
+#![tactic(auto)]
+
+pub mod law;
