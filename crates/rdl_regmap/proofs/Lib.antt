@@ -15,3 +15,5 @@ pub mod Words
 pub mod Tells
 pub mod Sums
 pub mod MapTold
+pub mod Made
+pub mod Counts
