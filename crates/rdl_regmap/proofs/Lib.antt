@@ -17,3 +17,4 @@ pub mod Sums
 pub mod MapTold
 pub mod Made
 pub mod Counts
+pub mod Inputs
