@@ -18,3 +18,4 @@ pub mod MapTold
 pub mod Made
 pub mod Counts
 pub mod Inputs
+pub mod Exprs
