@@ -19,3 +19,4 @@ pub mod Made
 pub mod Counts
 pub mod Inputs
 pub mod Exprs
+pub mod Places

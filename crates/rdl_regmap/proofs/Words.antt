@@ -85,7 +85,7 @@ register_of top v h r kind =
       bits = refl;
     }
 
-words_are : (r : Register) (width access : ℕ) → r.width ≡ width → r.access ≡ access → AreWidths width access → words_in r ≡ width / access
+pub words_are : (r : Register) (width access : ℕ) → r.width ≡ width → r.access ≡ access → AreWidths width access → words_in r ≡ width / access
 words_are r width access e f w = rw (f, Rattle.rdl_regmap.proofs.Placed.not_zero access w.bus, e) refl
 
 -- each bus word of a register is one of the map's
