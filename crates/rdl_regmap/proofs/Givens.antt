@@ -101,7 +101,7 @@ pub not_first : (b : Bool) (x : Place) (o : Option Place) → (if b then Some x 
 not_first true x o e = cc
 not_first false x o e = (refl, e)
 
-placed_in : (width access : ℕ) (t : Trail) (register : Component) (address : ℕ) (seen : List Bits) (next : ℕ) (is : List Instance) (g : NamedField)
+pub placed_in : (width access : ℕ) (t : Trail) (register : Component) (address : ℕ) (seen : List Bits) (next : ℕ) (is : List Instance) (g : NamedField)
     → misplaced_in t (targets_in register) width access seen next is ≡ None → Has g (fields_in address access t (targets_in register) next is) → IsPlaced width access t register address is g
 placed_in width access t register address seen next [] g none h = absurd h
 placed_in width access t register address seen next (i ∷ is) g none h =
@@ -219,7 +219,7 @@ pub record IsGiven (top : Component) (g : NamedField) : Type 0 where
   pub register : IsRegisterAt top visit
   pub field : IsPlaced (regwidth_at visit.trail) (accesswidth_at visit.trail) visit.trail visit.component visit.address (instances_of visit.component) g
 
-in_reg : (g : NamedField) (k : Body) (a : ℕ) (t : Trail) (c : Component) → Has g (fields_by k a t c) → k ≡ body.Reg
+pub in_reg : (g : NamedField) (k : Body) (a : ℕ) (t : Trail) (c : Component) → Has g (fields_by k a t c) → k ≡ body.Reg
 in_reg g body.File a t c h = absurd h
 in_reg g body.Addrmap a t c h = absurd h
 in_reg g body.Regfile a t c h = absurd h

@@ -20,3 +20,4 @@ pub mod Counts
 pub mod Inputs
 pub mod Exprs
 pub mod Places
+pub mod Standing

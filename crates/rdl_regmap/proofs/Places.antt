@@ -69,7 +69,7 @@ distinct_at test (z ∷ xs) zero (suc j) x y d lt e f = subst (λ w. test w y �
     same a b q = cc
 distinct_at test (z ∷ xs) (suc i) (suc j) x y d lt e f = distinct_at test xs i j x y d.1 (omega (arith, lt)) e f
 
-all_by : {A : Type 0} (P : A → Type 0) (xs : List A) → ((x : A) → Has x xs → P x) → AllByRecursion P xs
+pub all_by : {A : Type 0} (P : A → Type 0) (xs : List A) → ((x : A) → Has x xs → P x) → AllByRecursion P xs
 all_by P [] f = tt
 all_by P (x ∷ xs) f = (f x (inl refl), all_by P xs (λ y h. f y (inr h)))
 
@@ -84,17 +84,17 @@ distinct_append test (x ∷ xs) ys d e f =
     (all_by (λ y. test x y ≡ false) (xs ++ ys) (λ y h. elim (has_cases y xs ys h) [ inl l ↦ of_all (λ z. test x z ≡ false) xs y d.0 l | inr r ↦ f x y (inl refl) r ]),
      distinct_append test xs ys d.1 e (λ z y h i. f z y (inr h) i))
 
-distinct_left : {A : Type 0} (test : A → A → Bool) (xs ys : List A) → IsDistinct test (xs ++ ys) → IsDistinct test xs
+pub distinct_left : {A : Type 0} (test : A → A → Bool) (xs ys : List A) → IsDistinct test (xs ++ ys) → IsDistinct test xs
 unfolding IsDistinct
 distinct_left test [] ys d = tt
 distinct_left test (x ∷ xs) ys d = (all_by (λ y. test x y ≡ false) xs (λ y h. of_all (λ z. test x z ≡ false) (xs ++ ys) y d.0 (has_left y xs ys h)), distinct_left test xs ys d.1)
 
-distinct_right : {A : Type 0} (test : A → A → Bool) (xs ys : List A) → IsDistinct test (xs ++ ys) → IsDistinct test ys
+pub distinct_right : {A : Type 0} (test : A → A → Bool) (xs ys : List A) → IsDistinct test (xs ++ ys) → IsDistinct test ys
 unfolding IsDistinct
 distinct_right test [] ys d = d
 distinct_right test (x ∷ xs) ys d = distinct_right test xs ys d.1
 
-distinct_across : {A : Type 0} (test : A → A → Bool) (xs ys : List A) (x y : A) → IsDistinct test (xs ++ ys) → Has x xs → Has y ys → test x y ≡ false
+pub distinct_across : {A : Type 0} (test : A → A → Bool) (xs ys : List A) (x y : A) → IsDistinct test (xs ++ ys) → Has x xs → Has y ys → test x y ≡ false
 unfolding IsDistinct
 distinct_across test [] ys x y d h i = absurd h
 distinct_across test (z ∷ xs) ys x y d h i = elim h [

@@ -36,7 +36,7 @@ sum_cons f x xs = sum_by-append f (x ∷ []) xs
 
 -- ---- of one register
 
-end_is : (width access low bits : ℕ) (seen : List Bits) → width ≤ 128 → is_misplaced width access seen (bits_from low bits) ≡ false → min (low + bits) 129 ≡ low + bits
+pub end_is : (width access low bits : ℕ) (seen : List Bits) → width ≤ 128 → is_misplaced width access seen (bits_from low bits) ≡ false → min (low + bits) 129 ≡ low + bits
 end_is width access low bits seen bound out =
     let a : nat_lt width (min (low + bits) 129) ≡ false = no_left _ _ (no_left _ _ out) in
     let b : min (low + bits) 129 ≤ width = grind (arith, nat_tests, a) in
