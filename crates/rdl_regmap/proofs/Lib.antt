@@ -21,3 +21,4 @@ pub mod Inputs
 pub mod Exprs
 pub mod Places
 pub mod Standing
+pub mod Orderly

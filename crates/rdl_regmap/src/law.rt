@@ -7,3 +7,9 @@ ghost use Rattle.rdl_regmap.specs.Laws as spec;
 pub fn maps_are_told()
     ensures { spec.MapsAreTold }
 {}
+
+/// A law: the words and fields of such a map stand in order and apart, and what fields and inputs say
+/// of one another agrees.
+pub fn maps_are_orderly()
+    ensures { spec.MapsAreOrderly }
+{}
