@@ -22,3 +22,5 @@ pub mod Exprs
 pub mod Places
 pub mod Standing
 pub mod Orderly
+pub mod Names
+pub mod Spelled

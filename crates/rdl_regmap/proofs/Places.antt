@@ -73,7 +73,7 @@ pub all_by : {A : Type 0} (P : A → Type 0) (xs : List A) → ((x : A) → Has 
 all_by P [] f = tt
 all_by P (x ∷ xs) f = (f x (inl refl), all_by P xs (λ y h. f y (inr h)))
 
-of_all : {A : Type 0} (P : A → Type 0) (xs : List A) (x : A) → AllByRecursion P xs → Has x xs → P x
+pub of_all : {A : Type 0} (P : A → Type 0) (xs : List A) (x : A) → AllByRecursion P xs → Has x xs → P x
 of_all P [] x all h = absurd h
 of_all P (y ∷ xs) x all h = elim h [ inl e ↦ subst P (sym e) all.0 | inr r ↦ of_all P xs x all.1 r ]
 
