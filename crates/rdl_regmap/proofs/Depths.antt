@@ -18,10 +18,10 @@ at_least k zero m lt = absurd (omega (arith, lt))
 at_least k (suc n) m lt = omega arith
 
 -- an instance counts with all that it has inside
-one_counts : (inner : Component → ℕ) (i : Instance) (k : ℕ) → k < count_of i → is_field (kind_of i.component) ≡ false → 1 + inner i.component ≤ number_with inner i
+pub one_counts : (inner : Component → ℕ) (i : Instance) (k : ℕ) → k < count_of i → is_field (kind_of i.component) ≡ false → 1 + inner i.component ≤ number_with inner i
 one_counts inner i k lt plain = subst (λ b. 1 + inner i.component ≤ (if b then 0 else count_of i * (1 + inner i.component))) (sym plain) (at_least k (count_of i) (1 + inner i.component) lt)
 
-among_counts : (inner : Component → ℕ) (i : Instance) (is : List Instance) → Has i is → number_with inner i ≤ numbers_with inner is
+pub among_counts : (inner : Component → ℕ) (i : Instance) (is : List Instance) → Has i is → number_with inner i ≤ numbers_with inner is
 among_counts inner i [] h = absurd h
 among_counts inner i (j ∷ is) h = elim h [
   | inl e ↦ let s : number_with inner i ≡ number_with inner j = ap (λ (x : Instance). number_with inner x) e in omega (arith, s)

@@ -24,3 +24,4 @@ pub mod Standing
 pub mod Orderly
 pub mod Names
 pub mod Spelled
+pub mod Paths
