@@ -1,5 +1,6 @@
 -- The instances of a component in whose text nothing is refused, and where paths lead from it.
 use Rattle.std.proofs.Common.{◌≡◌, ◌⊎◌, inl, inr, ℕ, zero, suc, ◌+◌, ◌<◌, ◌≤◌, Bool, true, false, ◌&&◌, ◌||◌, not, List, [], ◌∷◌, ◌++◌, length, map, Option, Some, None, is_some, refl, sym, ◌∙◌, ap, subst, arith, append-nil, append_assoc, if◌then◌else◌, bytes_eq, nat_lt}
+use Rattle.std.specs.Prelude.{⊤}
 use Rattle.std.proofs.lemmas.Bool.{cases_Bool, true≢false}
 use Rattle.std.proofs.lemmas.Bool.Decides.{nat_tests}
 use Rattle.std.proofs.lemmas.Slice.Eq.{bytes_eq-Decides}
@@ -30,7 +31,7 @@ use Rattle.rdl_values.specs.OneInstance.{Instance}
 use Rattle.rdl_values.specs.OneFrame.{Frame, Trail}
 use Rattle.rdl_values.specs.Instances.{next_with, all_with, any_with, used_with, instances_by, instances_from, instances_of, elements_in, count_of, top_by, top_from}
 use Rattle.rdl_values.specs.Frames.{frame_of}
-use Rattle.rdl_values.specs.Values.{is_array}
+use Rattle.rdl_values.specs.Values.{is_array, is_index, fits_step}
 use Rattle.rdl_effects.specs.References.{index_in}
 use Rattle.rdl_fields.specs.Paths.{step_of, named_step, next_step, named_steps, step_by, element_of, index_of}
 use Rattle.field_policies.specs.FieldPath.{Step}
@@ -352,46 +353,64 @@ by_items outer before (x ∷ xs) s d e = elim (option_case (entered_by outer bef
 element_is : (of_field : Bool) (range : Option RdlRange) (index : Option RdlIndex) → names_element of_field range index ≡ true
     → ((if (not of_field && is_some range) then Some (index_in index) else None) ≡ Rattle.std.specs.Option.option_map (λ (i : RdlIndex). i.number.value) index)
     × (index_in index < (if of_field then 1 else elements_in range))
-element_is true None None e = (refl, omega arith)
-element_is false None None e = (refl, omega arith)
+    × (is_index (not of_field && is_some range) (index_in index) index ≡ true)
+element_is true None None e = (refl, omega arith, refl)
+element_is false None None e = (refl, omega arith, refl)
 element_is f None (Some k) e = cc
-element_is true (Some r) None e = (refl, omega arith)
+element_is true (Some r) None e = (refl, omega arith, refl)
 element_is false (Some r) None e = cc
 element_is true (Some r) (Some k) e = cc
-element_is false (Some r) (Some k) e = (refl, grind (arith, nat_tests, e))
+element_is false (Some r) (Some k) e = (refl, grind (arith, nat_tests, e), grind (arith, nat_tests))
 
-pub record IsLed (c : Component) (steps : List Step) (d : Component) : Type 0 where
+-- the steps name the frames one by one
+abbrev pub Along : List RdlStep → Trail → Type 0
+Along [] [] = ⊤
+Along (s ∷ ss) (f ∷ fs) = (fits_step s f ≡ true) × Along ss fs
+Along _ _ = ⊥
+
+abbrev pub steps_in : List RdlNextStep → List RdlStep
+steps_in [] = []
+steps_in (n ∷ ns) = n.step ∷ steps_in ns
+
+pub record IsLed (c : Component) (steps : List Step) (rs : List RdlStep) (d : Component) : Type 0 where
   pub trail : Trail
   pub way : IsTrail c trail d
   pub named : map step_of trail ≡ steps
+  pub along : Along rs trail
 
-one_step : (c d e : Component) (s : RdlStep) (steps : List Step) → IsStep s d (instances_of c) → IsLed d steps e → IsLed c (named_step s ∷ steps) e
-one_step c d e s steps h led =
+both_true : (a b : Bool) → a ≡ true → b ≡ true → (a && b) ≡ true
+both_true true true e f = refl
+both_true true false e f = cc
+both_true false b e f = cc
+
+one_step : (c d e : Component) (s : RdlStep) (steps : List Step) (rs : List RdlStep) → IsStep s d (instances_of c) → IsLed d steps rs e → IsLed c (named_step s ∷ steps) (s ∷ rs) e
+one_step c d e s steps rs h led =
     let n = element_is (is_field (kind_of h.instance.component)) h.instance.inst.range s.index h.element in
     record {
       trail = frame_of (targets_in c) h.instance (index_in s.index) ∷ led.trail;
       way = IsTrail.step c h.instance (index_in s.index) led.trail e h.among n.1 (subst (λ (x : Component). IsTrail x led.trail e) (sym h.component) led.way);
       named = ap (λ (x : Step). x ∷ map step_of led.trail) (ap (λ (o : Option ℕ). step_by h.instance.inst.name.text o) n.0 ∙ ap (λ (t : List ℕ). step_by t (index_of s)) h.named)
           ∙ ap (λ (xs : List Step). named_step s ∷ xs) led.named;
+      along = (both_true (is_text s.name.text h.instance.inst.name) _ ((bytes_eq-Decides h.instance.inst.name.text s.name.text).1 h.named) n.2, led.along);
     }
 
 no_steps : (ns : List RdlNextStep) → steps_on None ns ≡ None
 no_steps [] = refl
 no_steps (n ∷ ns) = no_steps ns
 
-led_on : (c : Component) (ns : List RdlNextStep) (e : Component) → steps_on (Some c) ns ≡ Some e → IsLed c (map next_step ns) e
-led_on c [] e q = record { trail = []; way = subst (λ (x : Component). IsTrail c [] x) (some_is c e q) (IsTrail.here c); named = refl }
+led_on : (c : Component) (ns : List RdlNextStep) (e : Component) → steps_on (Some c) ns ≡ Some e → IsLed c (map next_step ns) (steps_in ns) e
+led_on c [] e q = record { trail = []; way = subst (λ (x : Component). IsTrail c [] x) (some_is c e q) (IsTrail.here c); named = refl; along = tt }
   where
     some_is : (a b : Component) → Some a ≡ Some b → a ≡ b
     some_is a b r = cc
 led_on c (n ∷ ns) e q = elim (option_case (step_on n.step (Some c))) [
   | OptionCase.IsNone t ↦ let no = sym (no_steps ns) ∙ (rw t at q) in cc
-  | OptionCase.IsSome d t ↦ one_step c d e n.step (map next_step ns) (by_items c.chain [] (out-RdlDef c.definition).items n.step d t) (led_on d ns e (rw t at q))
+  | OptionCase.IsSome d t ↦ one_step c d e n.step (map next_step ns) (steps_in ns) (by_items c.chain [] (out-RdlDef c.definition).items n.step d t) (led_on d ns e (rw t at q))
 ]
 
-pub led : (c : Component) (path : RdlPath) (e : Component) → lead c.chain (out-RdlDef c.definition).items path ≡ Some e → IsLed c (named_steps path) e
+pub led : (c : Component) (path : RdlPath) (e : Component) → lead c.chain (out-RdlDef c.definition).items path ≡ Some e → IsLed c (named_steps path) (path.first ∷ steps_in path.more) e
 led c path e q = by (step_from c.chain [] path.first (out-RdlDef c.definition).items) refl
   where
-    by : (o : Option Component) → step_from c.chain [] path.first (out-RdlDef c.definition).items ≡ o → IsLed c (named_steps path) e
+    by : (o : Option Component) → step_from c.chain [] path.first (out-RdlDef c.definition).items ≡ o → IsLed c (named_steps path) (path.first ∷ steps_in path.more) e
     by None t = let no = sym (no_steps path.more) ∙ (rw t at q) in cc
-    by (Some d) t = one_step c d e path.first (map next_step path.more) (by_items c.chain [] (out-RdlDef c.definition).items path.first d t) (led_on d path.more e (rw t at q))
+    by (Some d) t = one_step c d e path.first (map next_step path.more) (steps_in path.more) (by_items c.chain [] (out-RdlDef c.definition).items path.first d t) (led_on d path.more e (rw t at q))

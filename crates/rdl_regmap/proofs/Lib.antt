@@ -25,3 +25,4 @@ pub mod Orderly
 pub mod Names
 pub mod Spelled
 pub mod Paths
+pub mod Distinct

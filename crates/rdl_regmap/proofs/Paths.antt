@@ -255,6 +255,7 @@ pub record HasWay (front : List Step) (g : NamedField) : Type 0 where
   pub rest : List Step
   pub path : g.path ≡ path_text (front ++ rest)
   pub good : GoodSteps (front ++ rest)
+  pub some : rest ≡ [] → ⊥
 
 -- by an element of an instance
 record HasStep (front : List Step) (s : Step) (g : NamedField) : Type 0 where
@@ -263,7 +264,7 @@ record HasStep (front : List Step) (s : Step) (g : NamedField) : Type 0 where
   good : GoodSteps (front ++ (s ∷ rest))
 
 to_way : (front : List Step) (s : Step) (g : NamedField) → HasStep front s g → HasWay front g
-to_way front s g h = record { rest = s ∷ h.rest; path = h.path; good = h.good }
+to_way front s g h = record { rest = s ∷ h.rest; path = h.path; good = h.good; some = λ e. cc }
 
 cancel : (front xs ys : List Step) → front ++ xs ≡ front ++ ys → xs ≡ ys
 cancel [] xs ys e = e

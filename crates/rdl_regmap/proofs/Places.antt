@@ -51,7 +51,7 @@ use Rattle.rdl_regmap.proofs.Exprs.{IsFound, found}
 
 -- ---- lists whose elements differ
 
-each_at : {A : Type 0} (P : A → Type 0) (xs : List A) (j : ℕ) (y : A) → AllByRecursion P xs → slice_get xs j ≡ Some y → P y
+pub each_at : {A : Type 0} (P : A → Type 0) (xs : List A) (j : ℕ) (y : A) → AllByRecursion P xs → slice_get xs j ≡ Some y → P y
 each_at P [] j y all e = cc
 each_at P (x ∷ xs) zero y all e = subst P (same x y e) all.0
   where

@@ -35,7 +35,7 @@ use Rattle.rdl_regmap.proofs.Visits.{Visit, visit, at_visit, over_is}
 use Rattle.rdl_regmap.proofs.Trails.{IsTrail, targets_in, HasNoField, IsVisited, visited}
 use Rattle.rdl_regmap.proofs.Depths.{is_shallow}
 use Rattle.rdl_regmap.proofs.Bodies.{Each, NothingRefused, own_none, FineComponent}
-use Rattle.rdl_regmap.proofs.Instances.{no_place, no_right, held_by_no, IsLed, led, along, joined, EndsInRegister, ends_in_register}
+use Rattle.rdl_regmap.proofs.Instances.{no_place, no_right, held_by_no, steps_in, IsLed, led, along, joined, EndsInRegister, ends_in_register}
 use Rattle.rdl_regmap.proofs.Effective.{IsTargeted, IsDynamic, dynamic}
 
 -- ---- assignments to paths
@@ -131,7 +131,7 @@ refers top t d q x row path fine plain few y named ref =
         leads_to_field y.body y.targeted.target row path f y.targeted.among
         (subst (λ (z : RdlProp). row_of z.name.text ≡ Some row) (sym y.targeted.prop) named)
         (subst (λ (z : RdlProp). reference_in row.form z.value ≡ Some path) (sym y.targeted.prop) ref) in
-    let s : IsLed y.body (named_steps path) l.field = led y.body path l.field l.lead in
+    let s : IsLed y.body (named_steps path) (path.first ∷ steps_in path.more) l.field = led y.body path l.field l.lead in
     let h : HasField (path_at (y.around ++ s.trail)) (fields_below (Some top)) = has_field top (y.around ++ s.trail) l.field fine plain few (joined top y.body l.field y.around s.trail y.way s.way) l.kind in
     record {
       field = h.field;
