@@ -26,3 +26,4 @@ pub mod Names
 pub mod Spelled
 pub mod Paths
 pub mod Distinct
+pub mod Widths
