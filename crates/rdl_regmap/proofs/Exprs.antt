@@ -210,7 +210,7 @@ field_in_range fields path inputs n e =
     let lt : n < length fields = slice_get_within fields n f.item f.here in
     grind (arith, nat_tests, lt)
 
-mapped : (f : ℕ → HwExpr) (o : Option ℕ) (e : HwExpr) → option_map f o ≡ Some e → (n : ℕ) × (o ≡ Some n) × (f n ≡ e)
+pub mapped : (f : ℕ → HwExpr) (o : Option ℕ) (e : HwExpr) → option_map f o ≡ Some e → (n : ℕ) × (o ≡ Some n) × (f n ≡ e)
 mapped f None e q = cc
 mapped f (Some n) e q = (n, refl, same_expr (f n) e q)
 
@@ -224,7 +224,7 @@ in_range fields input inputs (named.Anded path) e all q = let m = mapped expr.An
 in_range fields input inputs (named.Ored path) e all q = let m = mapped expr.Ored (number_of fields path) e q in subst (λ (x : HwExpr). is_in_range (length fields) inputs x ≡ true) m.2 (field_in_range fields path inputs m.0 m.1)
 in_range fields input inputs (named.Xored path) e all q = let m = mapped expr.Xored (number_of fields path) e q in subst (λ (x : HwExpr). is_in_range (length fields) inputs x ≡ true) m.2 (field_in_range fields path inputs m.0 m.1)
 
-no_input : (inputs n : ℕ) → None ≡ Some n → n < inputs
+pub no_input : (inputs n : ℕ) → None ≡ Some n → n < inputs
 no_input inputs n e = cc
 
 all_in_range : (top : Component) (words : List ℕ) (fields : List NamedField) (k : ℕ) (f : Field) (h : Here top words fields k f)

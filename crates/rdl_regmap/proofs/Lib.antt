@@ -27,3 +27,5 @@ pub mod Spelled
 pub mod Paths
 pub mod Distinct
 pub mod Widths
+pub mod Wide
+pub mod Valid

@@ -46,7 +46,7 @@ no_top_by before (RdlItem-F.Default a b d) e = refl
 no_top_by before (RdlItem-F.Prop a b) e = refl
 no_top_by before (RdlItem-F.Dynamic a b d f) e = refl
 
-no_top : (before xs : List RdlItem) → top_from before xs ≡ None → has_top xs ≡ false
+pub no_top : (before xs : List RdlItem) → top_from before xs ≡ None → has_top xs ≡ false
 no_top before [] e = refl
 no_top before (x ∷ xs) e = elim (option_case (top_from (before ++ x ∷ []) xs)) [
   | OptionCase.IsSome m t ↦ let off = rw t at e in cc

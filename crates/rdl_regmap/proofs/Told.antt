@@ -140,7 +140,7 @@ gate_if_told given high low false t a b e = refl
 
 -- ---- the form tells what a reference is
 
-bit_found : (referable : Bool) (o : Option RdlAssigned) (a : RdlAssigned) (path : RdlPath) (signal : Option RdlSignal) → o ≡ Some a → a.value ≡ value.Reference path signal
+pub bit_found : (referable : Bool) (o : Option RdlAssigned) (a : RdlAssigned) (path : RdlPath) (signal : Option RdlSignal) → o ≡ Some a → a.value ≡ value.Reference path signal
     → takes_assigned referable form.FlagOrBit o ≡ true → (referable ≡ true) × (reference_in form.FlagOrBit o ≡ Some path)
 bit_found referable o a path None u v e = by referable (rw (u, v) at e)
   where
@@ -154,7 +154,7 @@ bit_found referable o a path (Some s) u v e = by referable (is_reduction s.name)
     by true false r h = let no = rw r at h in cc
     by false c r h = cc
 
-whole_found : (referable : Bool) (o : Option RdlAssigned) (a : RdlAssigned) (path : RdlPath) (signal : Option RdlSignal) → o ≡ Some a → a.value ≡ value.Reference path signal
+pub whole_found : (referable : Bool) (o : Option RdlAssigned) (a : RdlAssigned) (path : RdlPath) (signal : Option RdlSignal) → o ≡ Some a → a.value ≡ value.Reference path signal
     → takes_assigned referable form.Whole o ≡ true → (referable ≡ true) × (reference_in form.Whole o ≡ Some path)
 whole_found referable o a path None u v e = by referable (rw (u, v) at e)
   where

@@ -202,7 +202,7 @@ pub record IsReferred (top : Component) (t : Trail) (q : Property) (x : RdlProp)
   pub named : path_at trail ≡ target_of (take (depth_at t q) t) path
   pub bits : has_bits kind x.value (facts_at t) (facts_at trail) ≡ true
 
-referred_by : (top : Component) (t : Trail) (d : Component) (q : Property) (x : RdlProp) (row : Row) (path : RdlPath) → IsClear top → length t ≤ 65 → IsTrail top t d → (y : IsDynamic top t d q x) → row_of x.name.text ≡ Some row → reference_in row.form x.value ≡ Some path
+pub referred_by : (top : Component) (t : Trail) (d : Component) (q : Property) (x : RdlProp) (row : Row) (path : RdlPath) → IsClear top → length t ≤ 65 → IsTrail top t d → (y : IsDynamic top t d q x) → row_of x.name.text ≡ Some row → reference_in row.form x.value ≡ Some path
     → IsReferred top t q x row.form path
 referred_by top t d q x row path clear short way y named ref =
     let f : FineComponent y.body = along top y.body y.around clear.fine y.way in
