@@ -1,30 +1,20 @@
 -- Bodies in whose text nothing is refused, and the components of such bodies.
-use Rattle.std.proofs.Common.{◌≡◌, ◌⊎◌, inl, inr, ℕ, zero, suc, ◌+◌, ◌<◌, ◌≤◌, Bool, true, false, ◌&&◌, ◌||◌, not, List, [], ◌∷◌, ◌++◌, length, take, Contains, Option, Some, None, slice_get, refl, sym, ◌∙◌, ap, subst, arith, append-nil, append_assoc, if◌then◌else◌}
+use Rattle.std.proofs.Common.{◌≡◌, ℕ, Bool, true, false, List, [], ◌∷◌, ◌++◌, length, take, Option, Some, None, slice_get, refl, sym, ◌∙◌, ap, subst, append-nil, append_assoc}
 use Rattle.bit_base.specs.declared.place.Place.{Place}
-use Rattle.rdl_tree.specs.declared.tree.RdlFile.{RdlFile}
 use Rattle.rdl_tree.specs.declared.tree.RdlItem.{RdlItem, out-RdlItem}
 use Rattle.rdl_tree.specs.declared.tree.RdlItem.TheOpen.{RdlItem-F}
 use Rattle.rdl_tree.specs.declared.tree.RdlDef.{RdlDef, out-RdlDef}
-use Rattle.rdl_tree.specs.declared.tree.RdlInst.{RdlInst}
-use Rattle.rdl_tree.specs.declared.tree.RdlInsts.{RdlInsts}
-use Rattle.rdl_tree.specs.declared.tree.RdlNextInst.{RdlNextInst}
 use Rattle.rdl_text.specs.declared.instance.Body.{Body}
-use Rattle.rdl_text.specs.declared.instance.Body.TheVariants as body
 use Rattle.rdl_text.specs.declared.scope.Meaning.{Meaning}
 use Rattle.rdl_text.specs.declared.scope.Meaning.TheVariants as meaning
 use Rattle.rdl_text.specs.declared.text.Check.{Check}
-use Rattle.rdl_text.specs.declared.text.Check.TheVariants as check
-use Rattle.rdl_text.specs.Lists.{or_else}
 use Rattle.rdl_text.specs.Chains.{Chain}
 use Rattle.rdl_text.specs.Components.{Component}
-use Rattle.rdl_text.specs.Instances.{body_of, kind_of, is_field, holds}
-use Rattle.rdl_text.specs.Types.{is_named, named_by, named_in, meaning_from, meaning_of, type_in, type_of}
-use Rattle.rdl_text.specs.Names.{place_if, can_be_top, is_out_of_place, is_misused}
+use Rattle.rdl_text.specs.Instances.{body_of, kind_of}
+use Rattle.rdl_text.specs.Types.{is_named, named_by, named_in, meaning_from, meaning_of, type_of}
 use Rattle.rdl_text.specs.Refusals.{refused_by, refused_from, IsRefused}
-use Rattle.rdl_values.specs.OneInstance.{Instance}
-use Rattle.rdl_values.specs.Instances.{next_with, all_with, any_with, used_with, instances_by, instances_from, instances_of, top_by, top_from, top_of}
 use Rattle.std.specs.Prelude.{⊤}
-use Rattle.rdl_regmap.proofs.Has.{OptionCase, option_case, Has, has_left, has_right, has_cases, none_left, none_right, none_in}
+use Rattle.rdl_regmap.proofs.Has.{OptionCase, option_case, none_left, none_right, none_in}
 
 -- ---- each item of a list, with those before it
 
@@ -66,12 +56,13 @@ take_end (b ∷ before) xs = ap (λ (ys : List RdlItem). b ∷ ys) (take_end bef
 
 inner_from : (outer : Chain) (kind : Body) (items : List RdlItem) → FineBody outer kind items → (before xs : List RdlItem) → items ≡ before ++ xs → Each (InnerFine outer) before xs
 inner_from outer kind items fine before [] e = tt
-inner_from outer kind items fine before (x ∷ xs) e =
-    (λ d is c p h. fine c p (IsRefused.inside outer kind items p (length before) x d
-        (subst (λ (ys : List RdlItem). slice_get ys (length before) ≡ Some x) (sym e) (at_end before xs x)) is
-        (subst (λ (ys : List RdlItem). IsRefused c (outer ++ ys ∷ []) (body_of (out-RdlDef d).kind) (out-RdlDef d).items p)
-            (sym (ap (take (length before)) e ∙ take_end before (x ∷ xs))) h)),
-     inner_from outer kind items fine (before ++ x ∷ []) xs (e ∙ sym (append_assoc before (x ∷ []) xs)))
+inner_from outer kind items fine before (x ∷ xs) e = (
+  λ d is c p h. fine c p (IsRefused.inside outer kind items p (length before) x d
+      (subst (λ (ys : List RdlItem). slice_get ys (length before) ≡ Some x) (sym e) (at_end before xs x)) is
+      (subst (λ (ys : List RdlItem). IsRefused c (outer ++ ys ∷ []) (body_of (out-RdlDef d).kind) (out-RdlDef d).items p)
+      (sym (ap (take (length before)) e ∙ take_end before (x ∷ xs))) h)),
+  inner_from outer kind items fine (before ++ x ∷ []) xs (e ∙ sym (append_assoc before (x ∷ []) xs)),
+)
 
 pub inner_fine : (outer : Chain) (kind : Body) (items : List RdlItem) → FineBody outer kind items → Each (InnerFine outer) [] items
 inner_fine outer kind items fine = inner_from outer kind items fine [] items refl

@@ -1,6 +1,6 @@
 -- Counters and interrupts of a map.
-use Rattle.std.proofs.Common.{◌≡◌, ◌≢◌, ◌⊎◌, inl, inr, ℕ, zero, suc, ◌+◌, ◌-◌, ◌^◌, ◌<◌, ◌≤◌, Bool, true, false, ◌&&◌, ◌||◌, ◌==◌, not, List, [], ◌∷◌, ◌++◌, length, map, Option, Some, None, is_some, is_none, slice_get, refl, sym, ◌∙◌, ap, subst, arith, if◌then◌else◌}
-use Rattle.std.proofs.lemmas.Bool.{cases_Bool, cases_eq, true≢false}
+use Rattle.std.proofs.Common.{◌≡◌, ◌≢◌, inl, inr, ℕ, zero, suc, ◌+◌, ◌<◌, ◌≤◌, Bool, true, false, ◌&&◌, ◌||◌, ◌==◌, not, List, [], ◌∷◌, ◌++◌, length, Option, Some, None, is_some, is_none, slice_get, refl, sym, ◌∙◌, ap, subst, arith, if◌then◌else◌}
+use Rattle.std.proofs.lemmas.Bool.{cases_Bool, true≢false}
 use Rattle.std.proofs.lemmas.Bool.Decides.{nat_tests}
 use Rattle.field_policies.specs.declared.field.Field.{Field}
 use Rattle.field_policies.specs.declared.extra.Extra.{Extra}
@@ -9,15 +9,15 @@ use Rattle.field_policies.specs.declared.extra.Counter.{Counter}
 use Rattle.field_policies.specs.declared.signal.Shown.{Shown}
 use Rattle.std.specs.Prelude.{⊤}
 use Rattle.field_policies.specs.Fields.{is_counter, is_intr, members_of}
-use Rattle.field_policies.specs.Maps.{EachField, AreCounters, AreInterrupts, AreMembers}
+use Rattle.field_policies.specs.Maps.{AreCounters, AreInterrupts, AreMembers}
 use Rattle.rdl_text.specs.declared.property.Property.{Property}
 use Rattle.rdl_text.specs.declared.property.Property.TheVariants as p
 use Rattle.rdl_text.specs.Components.{Component}
 use Rattle.rdl_values.specs.OneFrame.{Trail}
 use Rattle.rdl_values.specs.Values.{number_at, reset_at, in_effect, any_in_effect, is_assigned}
 use Rattle.rdl_values.specs.Accesses.{hw_at}
-use Rattle.rdl_values.specs.Fields.{width_at, takes_data, has_data, is_acted_on, is_wire, starts_known}
-use Rattle.rdl_effects.specs.Fields.{is_no_counter, has_counts, is_miscounted, is_no_interrupt, has_events, is_misraised, is_overstep}
+use Rattle.rdl_values.specs.Fields.{width_at, takes_data, has_data, is_acted_on, is_wire}
+use Rattle.rdl_effects.specs.Fields.{is_no_counter, has_counts, is_miscounted, is_no_interrupt, is_misraised, is_overstep}
 use Rattle.rdl_effects.specs.Registers.{number_or}
 use Rattle.rdl_fields.specs.declared.named.NamedExtra.{NamedExtra}
 use Rattle.rdl_fields.specs.declared.named.NamedExtra.TheVariants as given
@@ -26,14 +26,14 @@ use Rattle.rdl_fields.specs.declared.named.NamedIntr.{NamedIntr}
 use Rattle.rdl_fields.specs.declared.named.NamedField.{NamedField}
 use Rattle.rdl_fields.specs.Parts.{counter_at, intr_at, extra_at}
 use Rattle.rdl_map.specs.declared.signal.InputNumbers.{InputNumbers}
-use Rattle.rdl_map.specs.Signals.{number_if, numbers_from}
+use Rattle.rdl_map.specs.Signals.{numbers_from}
 use Rattle.rdl_map.specs.Extras as extras
 use Rattle.rdl_map.specs.Extras.{IsExtraOf, IsCounterOf, IsIntrOf, interrupts, number_when, interrupts_from, begins_with, is_first, members_at}
 use Rattle.rdl_regmap.proofs.Has.{Has}
 use Rattle.rdl_regmap.proofs.Instances.{no_left, no_right, yes_left, yes_right}
-use Rattle.rdl_regmap.proofs.Givens.{IsClear, trail_of}
+use Rattle.rdl_regmap.proofs.Givens.{trail_of}
 use Rattle.rdl_regmap.proofs.Tells.{AreSteps, are_steps, no_counter}
-use Rattle.rdl_regmap.proofs.Made.{below_power, base_at, IsMap, Here, here, WireFacts, wire_facts, wire_of, none_in_effect, right_holds, some_number, known_wire}
+use Rattle.rdl_regmap.proofs.Made.{below_power, base_at, IsMap, Here, here, wire_of, none_in_effect, some_number, known_wire}
 
 -- ---- what an extra is
 
@@ -146,13 +146,13 @@ are_counters top words given_fields fields m = record {
   overflow = λ k f e on.
       let h : Here top words given_fields k f = here top words given_fields fields m k f e in
       let s : in_effect (trail_of top h.field h.source) p.Overflow ≡ true =
-          ap (λ (x : NamedField). x.shown.overflow) (sym h.source.field.is) ∙ ap (λ (x : Shown). x.overflow) (sym h.is.rest.shown) ∙ on in
+      ap (λ (x : NamedField). x.shown.overflow) (sym h.source.field.is) ∙ ap (λ (x : Shown). x.overflow) (sym h.is.rest.shown) ∙ on in
       let c : in_effect (trail_of top h.field h.source) p.Counter ≡ true = shown_counts (trail_of top h.field h.source) p.Overflow (inr (inr (inl refl))) h.valued.counted s in
       is_counter_by given_fields _ k h.field.spot.register (in_effect (trail_of top h.field h.source) p.Counter) (in_effect (trail_of top h.field h.source) p.Intr) (counter_at (trail_of top h.field h.source)) (intr_at (trail_of top h.field h.source)) f.extra c (extra_of top words given_fields k f h);
   underflow = λ k f e on.
       let h : Here top words given_fields k f = here top words given_fields fields m k f e in
       let s : in_effect (trail_of top h.field h.source) p.Underflow ≡ true =
-          ap (λ (x : NamedField). x.shown.underflow) (sym h.source.field.is) ∙ ap (λ (x : Shown). x.underflow) (sym h.is.rest.shown) ∙ on in
+      ap (λ (x : NamedField). x.shown.underflow) (sym h.source.field.is) ∙ ap (λ (x : Shown). x.underflow) (sym h.is.rest.shown) ∙ on in
       let c : in_effect (trail_of top h.field h.source) p.Counter ≡ true = shown_counts (trail_of top h.field h.source) p.Underflow (inr (inr (inr (inl refl)))) h.valued.counted s in
       is_counter_by given_fields _ k h.field.spot.register (in_effect (trail_of top h.field h.source) p.Counter) (in_effect (trail_of top h.field h.source) p.Intr) (counter_at (trail_of top h.field h.source)) (intr_at (trail_of top h.field h.source)) f.extra c (extra_of top words given_fields k f h);
 }
@@ -331,8 +331,8 @@ are_interrupts top words given_fields fields m = record {
       let h : Here top words given_fields n f = here top words given_fields fields m n f e in
       let s : (extras.is_intr h.field.extra && is_first given_fields n h.field.spot.register) ≡ true = ap (λ (x : Shown). x.intr) (sym h.is.rest.shown) ∙ on in
       let all : members_of f.extra ≡ interrupts_from 0 h.field.spot.register given_fields =
-          members_are given_fields _ n h.field.spot.register h.field.extra f.extra h.is.extra
-          ∙ whole_list given_fields n h.field.spot.register (extras.is_intr h.field.extra) (is_first given_fields n h.field.spot.register) (yes_left _ _ s) (yes_right (extras.is_intr h.field.extra) _ s) in
+      members_are given_fields _ n h.field.spot.register h.field.extra f.extra h.is.extra
+      ∙ whole_list given_fields n h.field.spot.register (extras.is_intr h.field.extra) (is_first given_fields n h.field.spot.register) (yes_left _ _ s) (yes_right (extras.is_intr h.field.extra) _ s) in
       not_empty given_fields n h.field.spot.register (members_of f.extra) all (yes_right (extras.is_intr h.field.extra) _ s);
 }
   where

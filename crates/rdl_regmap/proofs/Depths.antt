@@ -1,12 +1,10 @@
 -- Where there aren't too many instances, none nests too deep.
-use Rattle.std.proofs.Common.{◌≡◌, ◌⊎◌, inl, inr, ℕ, zero, suc, ◌+◌, ◌*◌, ◌<◌, ◌≤◌, Bool, true, false, List, [], ◌∷◌, ◌++◌, length, refl, sym, ◌∙◌, ap, subst, arith, nat_lt, if◌then◌else◌}
-use Rattle.std.proofs.Math.Nat.{mul-le-mul_right}
-use Rattle.std.proofs.lemmas.Bool.{true≢false}
+use Rattle.std.proofs.Common.{◌≡◌, inl, inr, ℕ, zero, suc, ◌+◌, ◌*◌, ◌<◌, ◌≤◌, Bool, true, false, List, [], ◌∷◌, length, refl, sym, ap, subst, arith, nat_lt, if◌then◌else◌}
 use Rattle.std.proofs.lemmas.Bool.Decides.{nat_tests}
 use Rattle.rdl_text.specs.Components.{Component}
 use Rattle.rdl_text.specs.Instances.{kind_of, is_field}
 use Rattle.rdl_values.specs.OneInstance.{Instance}
-use Rattle.rdl_values.specs.OneFrame.{Frame, Trail}
+use Rattle.rdl_values.specs.OneFrame.{Trail}
 use Rattle.rdl_values.specs.Instances.{instances_of, count_of}
 use Rattle.rdl_effects.specs.Limits.{number_with, numbers_with, number_inside, number_in}
 use Rattle.rdl_effects.proofs.Numbers.{inside_none, inside_some}

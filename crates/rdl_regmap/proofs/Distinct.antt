@@ -1,12 +1,11 @@
 -- The fields of a map have paths of their own.
-use Rattle.std.proofs.Common.{◌≡◌, ◌≢◌, ◌⊎◌, inl, inr, ℕ, zero, suc, ◌<◌, ◌≤◌, Bool, true, false, List, [], ◌∷◌, ◌++◌, Option, Some, None, IsTrue, bytes_eq, slice_get, refl, sym, ◌∙◌, ap, subst, arith, nat_lt}
-use Rattle.std.specs.List.{IsDistinct, AllByRecursion}
+use Rattle.std.proofs.Common.{◌≡◌, inl, inr, ℕ, ◌<◌, Bool, true, false, List, [], ◌∷◌, Some, slice_get, refl, sym, ◌∙◌, ap, arith, nat_lt}
+use Rattle.std.specs.List.{IsDistinct}
 use Rattle.std.proofs.lemmas.Bool.{cases_Bool, true≢false}
 use Rattle.std.proofs.lemmas.Bool.Decides.{nat_tests}
 use Rattle.std.proofs.lemmas.Slice.Eq.{bytes_eq-Decides}
 use Rattle.std.proofs.lemmas.Map.Keys.{IsDistinct-IsPermutation}
 use Rattle.field_policies.specs.declared.field.Field.{Field}
-use Rattle.field_policies.specs.FieldPath.{Step, IsFieldPath, is_name, is_index}
 use Rattle.field_policies.specs.Maps.{HavePaths}
 use Rattle.rdl_text.specs.Components.{Component}
 use Rattle.rdl_fields.specs.declared.named.NamedField.{NamedField}

@@ -1,6 +1,5 @@
 -- Effective values: where an assignment in effect stands, and what it may say.
-use Rattle.std.proofs.Common.{◌≡◌, ◌⊎◌, inl, inr, ℕ, zero, suc, ◌+◌, ◌<◌, ◌≤◌, Bool, true, false, ◌&&◌, ◌||◌, not, List, [], ◌∷◌, ◌++◌, length, take, Option, Some, None, is_some, slice_get, refl, sym, ◌∙◌, ap, subst, arith, if◌then◌else◌, ◌-◌}
-use Rattle.std.proofs.lemmas.Bool.Decides.{nat_tests}
+use Rattle.std.proofs.Common.{◌≡◌, inl, inr, ℕ, suc, Bool, true, false, ◌&&◌, List, [], ◌∷◌, ◌++◌, take, Option, Some, None, is_some, refl, ◌∙◌, ap, subst, if◌then◌else◌}
 use Rattle.std.specs.Option.{option_and_then}
 use Rattle.rdl_tree.specs.declared.token.RdlToken.{RdlToken}
 use Rattle.rdl_tree.specs.declared.tree.RdlProp.{RdlProp}
@@ -8,17 +7,14 @@ use Rattle.rdl_tree.specs.declared.tree.RdlAssigned.{RdlAssigned}
 use Rattle.rdl_tree.specs.declared.tree.RdlValue.{RdlValue}
 use Rattle.rdl_tree.specs.declared.tree.RdlValue.TheVariants as value
 use Rattle.rdl_text.specs.declared.property.Property.{Property}
-use Rattle.rdl_text.specs.declared.property.Property.TheVariants as p
 use Rattle.rdl_text.specs.declared.property.Form.{Form}
-use Rattle.rdl_text.specs.declared.property.Form.TheVariants as form
-use Rattle.rdl_text.specs.declared.property.Row.{Row}
 use Rattle.rdl_text.specs.Lists.{or_else}
 use Rattle.rdl_text.specs.Components.{Component}
 use Rattle.rdl_text.specs.Properties.{row_of}
 use Rattle.rdl_text.specs.Assignments.{is_property}
 use Rattle.rdl_text.specs.Forms.{takes, takes_assigned}
 use Rattle.rdl_values.specs.OneFrame.{Target, Frame, Trail}
-use Rattle.rdl_values.specs.Values.{here_of, leads_along, assigned_in, last_in, target_in, dynamic_at, depth_at, own_at, default_at, takes_by, right, chosen, assigned_at, number_in, number_of, number_at}
+use Rattle.rdl_values.specs.Values.{here_of, leads_along, assigned_in, last_in, target_in, dynamic_at, depth_at, own_at, default_at, takes_by, right, assigned_at, number_in, number_at}
 use Rattle.rdl_values.specs.Frames.{frame_of}
 use Rattle.std.proofs.lemmas.Bool.{cases_Bool}
 use Rattle.rdl_regmap.proofs.Has.{OptionCase, option_case, Has}
@@ -75,14 +71,14 @@ targeted : (q : Property) (frames : Trail) (ts : List Target) (x : RdlProp) → 
 targeted q frames [] x e = cc
 targeted q frames (t ∷ ts) x e = elim (cases_Bool (is_property q t.prop && leads_along t.path frames)) [
   | inl u ↦
-        let same : t.prop ≡ x = some_prop t.prop x (rw u at e) in
-        record {
-          target = t;
-          among = inl refl;
-          prop = same;
-          along = yes_right (is_property q t.prop) (leads_along t.path frames) u;
-          property = subst (λ (z : RdlProp). is_property q z ≡ true) same (yes_left (is_property q t.prop) (leads_along t.path frames) u);
-        }
+      let same : t.prop ≡ x = some_prop t.prop x (rw u at e) in
+      record {
+        target = t;
+        among = inl refl;
+        prop = same;
+        along = yes_right (is_property q t.prop) (leads_along t.path frames) u;
+        property = subst (λ (z : RdlProp). is_property q z ≡ true) same (yes_left (is_property q t.prop) (leads_along t.path frames) u);
+      }
   | inr u ↦ let r : IsTargeted q frames ts x = targeted q frames ts x (rw u at e) in record { target = r.target; among = inr r.among; prop = r.prop; along = r.along; property = r.property }
 ]
 
@@ -100,31 +96,31 @@ pub record IsDynamic (c : Component) (t : Trail) (d : Component) (q : Property) 
 pub dynamic : (c : Component) (t : Trail) (d : Component) (q : Property) (x : RdlProp) → IsTrail c t d → dynamic_at t q ≡ Some x → IsDynamic c t d q x
 dynamic c t d q x (IsTrail.here _) e = cc
 dynamic c t d q x (IsTrail.step _ i k s _ among lt more) e =
-  let f : Frame = frame_of (targets_in c) i k in
-  elim (option_case (target_in q (f ∷ s) (targets_in c))) [
-  | OptionCase.IsSome y u ↦ record {
-      around = [];
-      body = c;
-      rest = f ∷ s;
-      split = refl;
-      depth = ap (λ (o : Option RdlProp). take (if is_some o then 0 else suc (depth_at s q)) (f ∷ s)) u;
-      way = IsTrail.here c;
-      onward = IsTrail.step c i k s d among lt more;
-      targeted = targeted q (f ∷ s) (targets_in c) x (u ∙ (rw u at e));
-    }
-  | OptionCase.IsNone u ↦
-        let r : IsDynamic i.component s d q x = dynamic i.component s d q x more (rw u at e) in
-        record {
-          around = f ∷ r.around;
-          body = r.body;
-          rest = r.rest;
-          split = ap (λ (z : Trail). f ∷ z) r.split;
-          depth = ap (λ (o : Option RdlProp). take (if is_some o then 0 else suc (depth_at s q)) (f ∷ s)) u ∙ ap (λ (z : Trail). f ∷ z) r.depth;
-          way = IsTrail.step c i k r.around r.body among lt r.way;
-          onward = r.onward;
-          targeted = r.targeted;
-        }
-]
+    let f : Frame = frame_of (targets_in c) i k in
+    elim (option_case (target_in q (f ∷ s) (targets_in c))) [
+      | OptionCase.IsSome y u ↦ record {
+        around = [];
+        body = c;
+        rest = f ∷ s;
+        split = refl;
+        depth = ap (λ (o : Option RdlProp). take (if is_some o then 0 else suc (depth_at s q)) (f ∷ s)) u;
+        way = IsTrail.here c;
+        onward = IsTrail.step c i k s d among lt more;
+        targeted = targeted q (f ∷ s) (targets_in c) x (u ∙ (rw u at e));
+      }
+      | OptionCase.IsNone u ↦
+          let r : IsDynamic i.component s d q x = dynamic i.component s d q x more (rw u at e) in
+          record {
+            around = f ∷ r.around;
+            body = r.body;
+            rest = r.rest;
+            split = ap (λ (z : Trail). f ∷ z) r.split;
+            depth = ap (λ (o : Option RdlProp). take (if is_some o then 0 else suc (depth_at s q)) (f ∷ s)) u ∙ ap (λ (z : Trail). f ∷ z) r.depth;
+            way = IsTrail.step c i k r.around r.body among lt r.way;
+            onward = r.onward;
+            targeted = r.targeted;
+          }
+    ]
 
 -- ---- the one in effect
 

@@ -1,8 +1,8 @@
 -- The expressions of a map's fields, each by the property that it comes from; and that their numbers are in range.
-use Rattle.std.proofs.Common.{◌≡◌, ◌≢◌, ◌⊎◌, inl, inr, ℕ, zero, suc, ◌+◌, ◌<◌, ◌≤◌, Bool, true, false, not, ◌&&◌, ◌||◌, nat_lt, List, [], ◌∷◌, ◌++◌, length, map, Option, Some, None, IsTrue, slice_get, refl, sym, ◌∙◌, ap, subst, arith, if◌then◌else◌}
+use Rattle.std.proofs.Common.{◌≡◌, inl, inr, ℕ, zero, suc, ◌+◌, ◌<◌, Bool, true, false, nat_lt, List, [], ◌∷◌, length, Option, Some, None, IsTrue, slice_get, refl, sym, ◌∙◌, ap, subst, arith, if◌then◌else◌}
 use Rattle.std.specs.List.{position, position_or_len}
 use Rattle.std.specs.Option.{option_map}
-use Rattle.std.proofs.lemmas.Bool.{cases_Bool, true≢false}
+use Rattle.std.proofs.lemmas.Bool.{cases_Bool}
 use Rattle.std.proofs.lemmas.Bool.Decides.{nat_tests}
 use Rattle.std.proofs.lemmas.Option.{slice_get_within}
 use Rattle.field_policies.specs.declared.field.Field.{Field}
@@ -12,8 +12,8 @@ use Rattle.field_policies.specs.declared.signal.HwExpr.{HwExpr}
 use Rattle.field_policies.specs.declared.signal.HwExpr.TheVariants as expr
 use Rattle.field_policies.specs.declared.signal.Gate.{Gate}
 use Rattle.field_policies.specs.declared.signal.HwInput.{HwInput}
-use Rattle.field_policies.specs.Fields.{is_in_range, incr_of, decr_of, filter_of, members_of, EachExpr}
-use Rattle.field_policies.specs.Maps.{EachField, AreInRange}
+use Rattle.field_policies.specs.Fields.{is_in_range, incr_of, decr_of, filter_of, EachExpr}
+use Rattle.field_policies.specs.Maps.{AreInRange}
 use Rattle.rdl_text.specs.declared.property.Property.{Property}
 use Rattle.rdl_text.specs.declared.property.Property.TheVariants as p
 use Rattle.rdl_text.specs.Components.{Component}
@@ -29,8 +29,8 @@ use Rattle.rdl_fields.specs.declared.named.NamedExtra.TheVariants as given
 use Rattle.rdl_fields.specs.declared.named.NamedCounter.{NamedCounter}
 use Rattle.rdl_fields.specs.declared.named.NamedIntr.{NamedIntr}
 use Rattle.rdl_fields.specs.declared.named.NamedField.{NamedField}
-use Rattle.rdl_fields.specs.Exprs.{expr_at, gate_of, gate_at, gate_if}
-use Rattle.rdl_fields.specs.Parts.{acts, counts_by_itself, incr_at, counter_at, intr_at, extra_at}
+use Rattle.rdl_fields.specs.Exprs.{expr_at, gate_of, gate_if}
+use Rattle.rdl_fields.specs.Parts.{acts, incr_at, counter_at, intr_at, extra_at}
 use Rattle.rdl_numbers.specs.Numbers.{has_path, number_of, numbered, numbered_gate}
 use Rattle.rdl_numbers.specs.Inputs.{inputs_of}
 use Rattle.rdl_map.specs.declared.signal.InputNumbers.{InputNumbers}
@@ -41,7 +41,7 @@ use Rattle.rdl_regmap.proofs.Has.{Has, has_at}
 use Rattle.rdl_regmap.proofs.Givens.{trail_of}
 use Rattle.rdl_regmap.proofs.Made.{base_at, as_many, IsMap, Here, here}
 use Rattle.rdl_regmap.proofs.Counts.{extra_of, IsMember, member_of}
-use Rattle.rdl_regmap.proofs.Inputs.{IsInput, input_is, IsOwn, we_own, wel_own, hwset_own, hwclr_own, swwe_own, swwel_own, incr_own, decr_own, IsThere, is_there, IsData, is_data}
+use Rattle.rdl_regmap.proofs.Inputs.{IsInput, input_is, we_own, wel_own, hwset_own, hwclr_own, swwe_own, swwel_own, incr_own, decr_own, is_there, IsData, is_data}
 
 -- ---- positions
 

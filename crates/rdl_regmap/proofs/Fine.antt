@@ -1,31 +1,26 @@
 -- A description that nothing refuses is clear.
-use Rattle.std.proofs.Common.{◌≡◌, ◌⊎◌, inl, inr, ℕ, Bool, true, false, ◌&&◌, ◌||◌, not, nat_lt, List, [], ◌∷◌, ◌++◌, Contains, Option, Some, None, is_some, refl, sym, ◌∙◌, ap, subst, if◌then◌else◌}
-use Rattle.bit_base.specs.declared.place.Place.{Place}
+use Rattle.std.proofs.Common.{◌≡◌, inl, inr, Bool, true, false, List, [], ◌∷◌, ◌++◌, Option, Some, is_some, refl, sym, ◌∙◌, ap, subst}
 use Rattle.rdl_tree.specs.declared.tree.RdlFile.{RdlFile}
 use Rattle.rdl_tree.specs.declared.tree.RdlItem.{RdlItem, out-RdlItem}
 use Rattle.rdl_tree.specs.declared.tree.RdlItem.TheOpen.{RdlItem-F}
 use Rattle.rdl_tree.specs.declared.tree.RdlDef.{RdlDef, out-RdlDef}
 use Rattle.rdl_text.specs.declared.instance.Body.{Body}
 use Rattle.rdl_text.specs.declared.instance.Body.TheVariants as body
-use Rattle.rdl_text.specs.declared.text.Check.{Check}
 use Rattle.rdl_text.specs.declared.text.Check.TheVariants as check
 use Rattle.rdl_text.specs.Components.{Component}
-use Rattle.rdl_text.specs.Instances.{body_of, kind_of, is_field}
+use Rattle.rdl_text.specs.Instances.{body_of, kind_of}
 use Rattle.rdl_text.specs.Names.{can_be_top, is_addrmap}
-use Rattle.rdl_text.specs.Refusals.{IsRefused}
 use Rattle.rdl_values.specs.Instances.{top_by, top_from, top_of}
-use Rattle.rdl_values.specs.Walks as plain
 use Rattle.rdl_effects.specs.declared.effect.Effect.TheVariants as effect
 use Rattle.rdl_effects.specs.Bodies.{refused_at}
-use Rattle.rdl_effects.specs.Limits.{has_too_many, number_in, number_below}
+use Rattle.rdl_effects.specs.Limits.{has_too_many}
 use Rattle.rdl_effects.specs.Refusals.{over_top, conflicts_of}
 use Rattle.rdl_layout.specs.Misplaced.{misplaced_at}
-use Rattle.rdl_layout.specs.Registers.{below, misplaced_below, misplaced_of}
-use Rattle.rdl_layout.specs.Walks.{over}
-use Rattle.rdl_elab.specs.Refusals.{IsFine, IsFew, whole}
+use Rattle.rdl_layout.specs.Registers.{below, misplaced_of}
+use Rattle.rdl_elab.specs.Refusals.{IsFine, whole}
 use Rattle.rdl_regmap.proofs.Has.{OptionCase, option_case, none_in}
 use Rattle.rdl_regmap.proofs.Bodies.{FineBody}
-use Rattle.rdl_regmap.proofs.Instances.{yes_left, yes_right, top_is_fine}
+use Rattle.rdl_regmap.proofs.Instances.{yes_right, top_is_fine}
 use Rattle.rdl_regmap.proofs.Givens.{IsClear}
 
 text_fine : (file : RdlFile) → IsFine file → FineBody [] body.File file.items

@@ -1,7 +1,7 @@
 -- What form the values of a property have, by whatever name it is assigned.
-use Rattle.std.proofs.Common.{◌≡◌, ℕ, Bool, true, false, ◌&&◌, List, [], ◌∷◌, Option, Some, None, refl, sym, ◌∙◌, ap, inl, inr, subst, bytes_eq, if◌then◌else◌, rules}
+use Rattle.std.proofs.Common.{◌≡◌, ℕ, Bool, true, false, List, [], ◌∷◌, Option, Some, None, refl, inl, inr, subst, bytes_eq, rules}
 use Rattle.std.specs.List.{list_all}
-use denote.Enum.Bare.{sameb, same_true}
+use denote.Enum.Bare.{same_true}
 use Rattle.rdl_tree.specs.declared.tree.RdlProp.{RdlProp}
 use Rattle.rdl_text.specs.contracts.property.Property.{the_type}
 use Rattle.rdl_text.specs.declared.property.Property.{Property}
@@ -10,8 +10,8 @@ use Rattle.rdl_text.specs.declared.property.Form.{Form}
 use Rattle.rdl_text.specs.declared.property.Form.TheVariants as form
 use Rattle.rdl_text.specs.declared.property.Row.{Row}
 use Rattle.rdl_text.specs.Lists.{or_else}
-use Rattle.rdl_text.specs.Properties.{Named, row_if, row_among, row_of, common_rows, access_rows, hardware_rows, counting_rows}
-use Rattle.rdl_text.specs.Assignments.{is_of_row, is_property}
+use Rattle.rdl_text.specs.Properties.{Named, row_among, row_of, common_rows, access_rows, hardware_rows, counting_rows}
+use Rattle.rdl_text.specs.Assignments.{is_property}
 use Rattle.std.proofs.lemmas.Bool.{cases_Bool}
 use Rattle.rdl_regmap.proofs.Instances.{yes_left, yes_right}
 

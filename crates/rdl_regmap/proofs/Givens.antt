@@ -1,7 +1,6 @@
 -- What each field of a description is, where nothing is refused: where it stands, and that nothing of it is refused in effect.
-use Rattle.std.proofs.Common.{◌≡◌, ◌⊎◌, inl, inr, ℕ, zero, suc, ◌+◌, ◌-◌, ◌*◌, ◌/◌, ◌%◌, ◌<◌, ◌≤◌, Bool, true, false, ◌&&◌, ◌||◌, not, ◌==◌, min, nat_lt, nat_le, List, [], ◌∷◌, ◌++◌, length, Option, Some, None, slice_get, length-append, refl, sym, ◌∙◌, ap, subst, arith, if◌then◌else◌}
+use Rattle.std.proofs.Common.{◌≡◌, inl, inr, ℕ, suc, ◌+◌, ◌-◌, ◌/◌, ◌<◌, ◌≤◌, Bool, true, false, ◌&&◌, min, nat_lt, nat_le, List, [], ◌∷◌, ◌++◌, length, Option, Some, None, slice_get, length-append, refl, sym, ◌∙◌, ap, subst, arith, if◌then◌else◌}
 use Rattle.std.specs.Option.{option_and_then}
-use Rattle.std.proofs.lemmas.Bool.{cases_Bool}
 use Rattle.std.proofs.lemmas.Bool.Decides.{nat_tests}
 use Rattle.bit_base.specs.declared.place.Place.{Place}
 use Rattle.rdl_tree.specs.declared.tree.RdlRange.{RdlRange}
@@ -12,33 +11,33 @@ use Rattle.rdl_text.specs.declared.property.Property.TheVariants as p
 use Rattle.rdl_text.specs.declared.property.Form.TheVariants as form
 use Rattle.rdl_text.specs.Components.{Component}
 use Rattle.rdl_text.specs.Instances.{kind_of, is_field, holds}
-use Rattle.rdl_text.specs.Forms.{takes, is_reg_width, is_access_width, is_misranged, is_mislaid, is_zero, misshaped}
+use Rattle.rdl_text.specs.Forms.{is_reg_width, is_access_width, is_misranged}
 use Rattle.rdl_text.specs.Names.{place_if}
 use Rattle.rdl_values.specs.OneInstance.{Instance}
-use Rattle.rdl_values.specs.OneFrame.{Target, Frame, Trail}
+use Rattle.rdl_values.specs.OneFrame.{Frame, Trail}
 use Rattle.rdl_values.specs.Instances.{instances_of, count_of}
 use Rattle.rdl_values.specs.Frames.{frame_of}
 use Rattle.rdl_values.specs.Values.{here_of, number_at}
 use Rattle.rdl_values.specs.Fields.{span_to, span_in, span_at, width_by, width_at}
 use Rattle.rdl_values.specs.Walks as plain
 use Rattle.rdl_effects.specs.declared.effect.Effect.TheVariants as effect
-use Rattle.rdl_effects.specs.Bodies.{is_misvalued_of, is_refused_of, refused_here, refused_in, refused_at}
+use Rattle.rdl_effects.specs.Bodies.{is_misvalued_of, refused_here, refused_at}
 use Rattle.rdl_effects.specs.Fields.{is_misvalued_field}
 use Rattle.rdl_effects.specs.Registers.{number_or, regwidth_at, accesswidth_at, is_narrow}
 use Rattle.rdl_effects.specs.Limits.{number_in}
 use Rattle.rdl_layout.specs.declared.bits.Bits.{Bits}
-use Rattle.rdl_layout.specs.Bits.{bits_of, bits_from, low_of, width_of, is_misplaced, misplaced_in}
-use Rattle.rdl_layout.specs.Misplaced.{place_of, first_field, in_register, misplaced_by, misplaced_at, place_by, is_beyond, is_off, is_instance}
+use Rattle.rdl_layout.specs.Bits.{bits_of, low_of, is_misplaced, misplaced_in}
+use Rattle.rdl_layout.specs.Misplaced.{place_of, first_field, in_register, misplaced_at, place_by, is_beyond, is_off, is_instance}
 use Rattle.rdl_layout.specs.Walks.{over}
 use Rattle.rdl_fields.specs.declared.named.NamedField.{NamedField}
 use Rattle.rdl_fields.specs.Registers.{field_in, fields_in, fields_by, fields_at, fields_below}
-use Rattle.rdl_regmap.proofs.Has.{Has, has_left, has_right, has_cases, has_none, none_left, none_right, FromOne, from_flat, flat_none}
+use Rattle.rdl_regmap.proofs.Has.{Has, has_none, none_left, none_right, FromOne, from_flat, flat_none}
 use Rattle.rdl_regmap.proofs.Visits.{Visit, visit, at_visit, over_is}
 use Rattle.rdl_regmap.proofs.Trails.{IsTrail, targets_in, HasNoField, IsReached, reached, given_at}
 use Rattle.rdl_regmap.proofs.Depths.{is_shallow}
 use Rattle.rdl_regmap.proofs.Bodies.{FineComponent}
-use Rattle.rdl_regmap.proofs.Instances.{no_place, no_left, no_right, yes_left, held_by_no, same_bytes, IsInstance, instance_is, along, joined}
-use Rattle.rdl_regmap.proofs.Forms.{fits_form, is_regwidth, is_regwidth_form, is_accesswidth, is_accesswidth_form, is_fieldwidth, is_fieldwidth_form}
+use Rattle.rdl_regmap.proofs.Instances.{no_place, no_left, yes_left, IsInstance, instance_is, along, joined}
+use Rattle.rdl_regmap.proofs.Forms.{is_regwidth_form, is_accesswidth_form, is_fieldwidth_form}
 use Rattle.rdl_regmap.proofs.Effective.{IsNumber, number}
 use Rattle.rdl_regmap.proofs.Placed.{IsAccess, IsRegWidth, AreWidths, IsInside, inside, ends_within, reg_width, access_width, least_access, are_widths}
 
@@ -106,13 +105,13 @@ pub placed_in : (width access : ℕ) (t : Trail) (register : Component) (address
 placed_in width access t register address seen next [] g none h = absurd h
 placed_in width access t register address seen next (i ∷ is) g none h =
     let e : (is_misplaced width access seen (bits_of t (targets_in register) next i) ≡ false)
-        × (misplaced_in t (targets_in register) width access (seen ++ bits_of t (targets_in register) next i ∷ []) (bits_of t (targets_in register) next i).end is ≡ None) =
-        not_first (is_misplaced width access seen (bits_of t (targets_in register) next i)) i.inst.name.place _ none in
+    × (misplaced_in t (targets_in register) width access (seen ++ bits_of t (targets_in register) next i ∷ []) (bits_of t (targets_in register) next i).end is ≡ None) =
+    not_first (is_misplaced width access seen (bits_of t (targets_in register) next i)) i.inst.name.place _ none in
     elim h [
       | inl s ↦ record { instance = i; among = inl refl; next = next; is = s; seen = seen; placed = e.0 }
       | inr r ↦
           let q : IsPlaced width access t register address is g =
-              placed_in width access t register address (seen ++ bits_of t (targets_in register) next i ∷ []) (bits_of t (targets_in register) next i).end is g e.1 r in
+          placed_in width access t register address (seen ++ bits_of t (targets_in register) next i ∷ []) (bits_of t (targets_in register) next i).end is g e.1 r in
           record { instance = q.instance; among = inr q.among; next = q.next; is = q.is; seen = q.seen; placed = q.placed }
     ]
 
@@ -194,9 +193,9 @@ register_at top v clear h kind =
     let over_it : is_beyond v.address (min (regwidth_at v.trail / 8) 4294967297) ≡ false = rw (is_instance_of v.trail some, size_of_register 65 v.trail v.component kind) at beyond in
     let own : in_register (kind_of v.component) v.address v.trail v.component (place_by v.component (here_of v.trail)) ≡ [] = none_right _ _ gone in
     let in_it : in_register body.Reg v.address v.trail v.component (place_by v.component (here_of v.trail)) ≡ [] =
-        subst (λ (k : Body). in_register k v.address v.trail v.component (place_by v.component (here_of v.trail)) ≡ []) kind own in
+    subst (λ (k : Body). in_register k v.address v.trail v.component (place_by v.component (here_of v.trail)) ≡ []) kind own in
     let widths : AreWidths (regwidth_at v.trail) (accesswidth_at v.trail) =
-        are_widths (regwidth_at v.trail) (accesswidth_at v.trail) (reg_width_at top v.trail v.component way) (access_at top v.trail v.component way) (grind (arith, nat_tests, narrow)) in
+    are_widths (regwidth_at v.trail) (accesswidth_at v.trail) (reg_width_at top v.trail v.component way) (access_at top v.trail v.component way) (grind (arith, nat_tests, narrow)) in
     let end : v.address + min (regwidth_at v.trail / 8) 4294967297 ≤ 4294967296 = ends_within v.address (min (regwidth_at v.trail / 8) 4294967297) over_it in
     record {
       way = way;
@@ -301,11 +300,11 @@ field_is top g clear i =
     let t : Trail = i.visit.trail ++ f ∷ [] in
     let one : 0 < count_of i.field.instance = one_of i.field.instance kind in
     let way : IsTrail top (trail_of top g i) i.field.instance.component =
-        joined top i.visit.component i.field.instance.component i.visit.trail (f ∷ []) i.register.way
-        (IsTrail.step i.visit.component i.field.instance 0 [] i.field.instance.component i.field.among one (IsTrail.here i.field.instance.component)) in
+    joined top i.visit.component i.field.instance.component i.visit.trail (f ∷ []) i.register.way
+    (IsTrail.step i.visit.component i.field.instance 0 [] i.field.instance.component i.field.among one (IsTrail.here i.field.instance.component)) in
     let short : length i.visit.trail ≤ 64 = is_shallow top i.visit.trail i.visit.component clear.few i.register.way i.register.fieldless in
     let none : refused_at effect.Values (trail_of top g i) i.field.instance.component ≡ [] =
-        unrefused top (trail_of top g i) i.field.instance.component clear way (omega (arith, short, length-append i.visit.trail (f ∷ []))) in
+    unrefused top (trail_of top g i) i.field.instance.component clear way (omega (arith, short, length-append i.visit.trail (f ∷ []))) in
     let e : EndsAt (trail_of top g i) i.field.instance.component = record { frame = f; here = here_is i.visit.trail f; kind = refl } in
     let v : is_misvalued_field (trail_of top g i) ≡ false = subst (λ (k : Body). is_misvalued_of k (trail_of top g i) ≡ false) kind (valued (trail_of top g i) i.field.instance.component e none) in
     let shaped : is_misranged (is_field (kind_of i.field.instance.component)) i.field.instance.inst.range ≡ false = no_left _ _ (no_left _ _ (no_left _ _ (no_place _ _ inst.shaped))) in

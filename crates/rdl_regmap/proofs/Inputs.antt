@@ -1,8 +1,7 @@
 -- The hardware inputs of a map: by their numbers, each with its signal and its bits.
-use Rattle.std.proofs.Common.{◌≡◌, ◌≢◌, ◌⊎◌, inl, inr, ℕ, zero, suc, ◌+◌, ◌-◌, ◌*◌, length-append, ◌<◌, ◌≤◌, Bool, true, false, List, [], ◌∷◌, ◌++◌, length, map, Option, Some, None, slice_get, refl, sym, ◌∙◌, ap, subst, arith, append_assoc}
+use Rattle.std.proofs.Common.{◌≡◌, inl, inr, ℕ, zero, suc, ◌+◌, ◌*◌, length-append, ◌<◌, ◌≤◌, Bool, true, false, List, [], ◌∷◌, ◌++◌, length, map, Some, slice_get, refl, sym, ◌∙◌, ap, subst, arith, append_assoc}
 use Rattle.std.specs.Prelude.{⊤}
 use Rattle.std.proofs.lemmas.List.{length-map}
-use Rattle.std.proofs.lemmas.Bool.{cases_eq}
 use Rattle.field_policies.specs.declared.signal.HwInput.{HwInput}
 use Rattle.field_policies.specs.declared.signal.InSignal.{InSignal}
 use Rattle.field_policies.specs.declared.signal.InSignal.TheVariants as signal
@@ -10,7 +9,6 @@ use Rattle.field_policies.specs.Maps.{input_width}
 use Rattle.rdl_fields.specs.declared.named.Inputs.{Inputs}
 use Rattle.rdl_fields.specs.declared.named.NamedField.{NamedField}
 use Rattle.rdl_numbers.specs.Inputs.{signal_if, signals_of, input_of, own_inputs, inputs_from, inputs_of}
-use Rattle.rdl_map.specs.declared.signal.InputNumbers.{InputNumbers}
 use Rattle.rdl_map.specs.Signals.{count_if, number_if, numbers_from, count_of, count_at}
 use Rattle.rdl_regmap.proofs.Has.{Has, has_cases, has_at}
 use Rattle.rdl_regmap.proofs.Made.{base_at}

@@ -1,5 +1,5 @@
 -- The instances of a component in whose text nothing is refused, and where paths lead from it.
-use Rattle.std.proofs.Common.{◌≡◌, ◌⊎◌, inl, inr, ℕ, zero, suc, ◌+◌, ◌<◌, ◌≤◌, Bool, true, false, ◌&&◌, ◌||◌, not, List, [], ◌∷◌, ◌++◌, length, map, Option, Some, None, is_some, refl, sym, ◌∙◌, ap, subst, arith, append-nil, append_assoc, if◌then◌else◌, bytes_eq, nat_lt}
+use Rattle.std.proofs.Common.{◌≡◌, inl, inr, ℕ, ◌<◌, Bool, true, false, ◌&&◌, ◌||◌, not, List, [], ◌∷◌, ◌++◌, map, Option, Some, None, is_some, refl, sym, ◌∙◌, ap, subst, arith, if◌then◌else◌, bytes_eq}
 use Rattle.std.specs.Prelude.{⊤}
 use Rattle.std.proofs.lemmas.Bool.{cases_Bool, true≢false}
 use Rattle.std.proofs.lemmas.Bool.Decides.{nat_tests}
@@ -20,20 +20,19 @@ use Rattle.rdl_tree.specs.Tree.{is_text}
 use Rattle.rdl_text.specs.declared.instance.Body.{Body}
 use Rattle.rdl_text.specs.declared.instance.Body.TheVariants as body
 use Rattle.rdl_text.specs.declared.text.Check.TheVariants as check
-use Rattle.rdl_text.specs.Lists.{or_else}
 use Rattle.rdl_text.specs.Chains.{Chain}
 use Rattle.rdl_text.specs.Components.{Component}
 use Rattle.rdl_text.specs.Instances.{body_of, kind_of, is_field, holds, next_inst, inst_in, inst_of, names_element, entered, entered_by, step_from, step_on, steps_on, lead}
 use Rattle.rdl_text.specs.Types.{type_of}
-use Rattle.rdl_text.specs.Names.{place_if, can_be_top, is_out_of_place, is_misused, is_defined_again, repeated, repeated_any}
+use Rattle.rdl_text.specs.Names.{place_if, can_be_top, is_out_of_place, is_defined_again}
 use Rattle.rdl_text.specs.Forms.{misshaped, misshaped_next, misshaped_all}
 use Rattle.rdl_values.specs.OneInstance.{Instance}
-use Rattle.rdl_values.specs.OneFrame.{Frame, Trail}
+use Rattle.rdl_values.specs.OneFrame.{Trail}
 use Rattle.rdl_values.specs.Instances.{next_with, all_with, any_with, used_with, instances_by, instances_from, instances_of, elements_in, count_of, top_by, top_from}
 use Rattle.rdl_values.specs.Frames.{frame_of}
-use Rattle.rdl_values.specs.Values.{is_array, is_index, fits_step}
+use Rattle.rdl_values.specs.Values.{is_index, fits_step}
 use Rattle.rdl_effects.specs.References.{index_in}
-use Rattle.rdl_fields.specs.Paths.{step_of, named_step, next_step, named_steps, step_by, element_of, index_of}
+use Rattle.rdl_fields.specs.Paths.{step_of, named_step, next_step, named_steps, step_by, index_of}
 use Rattle.field_policies.specs.FieldPath.{Step}
 use Rattle.rdl_regmap.proofs.Has.{OptionCase, option_case, Has, has_left, has_right, has_cases, none_left, none_right}
 use Rattle.rdl_regmap.proofs.Trails.{IsTrail, targets_in, HasNoField}
@@ -246,23 +245,22 @@ ends_in_register c t d fine plain (IsTrail.here _) field = absurd (true≢false 
 ends_in_register c t d fine plain (IsTrail.step _ i k s _ among lt more) field = elim (cases_Bool (is_field (kind_of i.component))) [
   | inl f ↦ ends_here c i k s d i.component refl among lt inst f more
   | inr f ↦
-        let e : EndsInRegister i.component s d = ends_in_register i.component s d inst.fine f more field in
-        record {
-          before = frame_of (targets_in c) i k ∷ e.before;
-          register = e.register;
-          instance = e.instance;
-          trail = IsTrail.step c i k e.before e.register among lt e.trail;
-          fieldless = (f, e.fieldless);
-          kind = e.kind;
-          among = e.among;
-          ends = ap (λ (x : Trail). frame_of (targets_in c) i k ∷ x) e.ends;
-          component = e.component;
-        }
+      let e : EndsInRegister i.component s d = ends_in_register i.component s d inst.fine f more field in
+      record {
+        before = frame_of (targets_in c) i k ∷ e.before;
+        register = e.register;
+        instance = e.instance;
+        trail = IsTrail.step c i k e.before e.register among lt e.trail;
+        fieldless = (f, e.fieldless);
+        kind = e.kind;
+        among = e.among;
+        ends = ap (λ (x : Trail). frame_of (targets_in c) i k ∷ x) e.ends;
+        component = e.component;
+      }
 ]
   where
     inst : IsInstance c i
     inst = instance_is c i fine among
-
 
 -- ---- where a path leads
 
@@ -290,8 +288,8 @@ in_next : (name : List ℕ) (c : Component) (ns : List RdlNextInst) (i : RdlInst
 in_next name c [] i e = cc
 in_next name c (n ∷ ns) i e = elim (cases_Bool (is_text name n.inst.name)) [
   | inl t ↦
-        let same : n.inst ≡ i = some_inst n.inst i (rw t at e) in
-        record { among = inl (ap (λ (x : RdlInst). record { inst = x; component = c }) (sym same)); named = ap (λ (x : RdlInst). x.name.text) (sym same) ∙ same_bytes _ _ t }
+      let same : n.inst ≡ i = some_inst n.inst i (rw t at e) in
+      record { among = inl (ap (λ (x : RdlInst). record { inst = x; component = c }) (sym same)); named = ap (λ (x : RdlInst). x.name.text) (sym same) ∙ same_bytes _ _ t }
   | inr t ↦ let r : InList name c i (next_with c ns) = in_next name c ns i (rw t at e) in record { among = inr r.among; named = r.named }
 ]
 

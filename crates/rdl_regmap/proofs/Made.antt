@@ -1,14 +1,8 @@
 -- The fields of a map one by one, each with the field of the description that it is made of.
-use Rattle.std.proofs.Common.{◌≡◌, ◌≢◌, ◌⊎◌, inl, inr, ℕ, zero, suc, ◌+◌, ◌-◌, ◌^◌, ◌<◌, ◌≤◌, Bool, true, false, ◌&&◌, ◌||◌, not, List, [], ◌∷◌, ◌++◌, length, map, Option, Some, None, is_some, is_none, slice_get, sum_by, refl, sym, ◌∙◌, ap, subst, arith, if◌then◌else◌, codes, bytes_eq}
-use Rattle.std.proofs.lemmas.Bool.{cases_Bool, true≢false}
+use Rattle.std.proofs.Common.{◌≡◌, ◌≢◌, ◌⊎◌, inl, inr, ℕ, zero, suc, ◌+◌, ◌^◌, ◌<◌, ◌≤◌, Bool, true, false, ◌&&◌, ◌||◌, not, List, [], ◌∷◌, length, Option, Some, None, is_some, slice_get, sum_by, refl, sym, ◌∙◌, ap, subst, arith, codes, bytes_eq}
 use Rattle.field_policies.specs.declared.field.Field.{Field}
-use Rattle.field_policies.specs.declared.policy.ReadEffect.{ReadEffect}
 use Rattle.field_policies.specs.declared.policy.ReadEffect.TheVariants as read
-use Rattle.field_policies.specs.declared.extra.Extra.{Extra}
-use Rattle.field_policies.specs.declared.extra.Extra.TheVariants as extra
-use Rattle.field_policies.specs.declared.extra.Counter.{Counter}
-use Rattle.field_policies.specs.Fields.{is_counter, is_intr}
-use Rattle.field_policies.specs.Maps.{EachField, AreResets, AreWires, AreCounters, IsSmall}
+use Rattle.field_policies.specs.Maps.{AreResets, AreWires, IsSmall}
 use Rattle.rdl_tree.specs.declared.token.RdlToken.{RdlToken}
 use Rattle.rdl_tree.specs.declared.tree.RdlProp.{RdlProp}
 use Rattle.rdl_tree.specs.Tree.{is_text}
@@ -16,28 +10,18 @@ use Rattle.rdl_text.specs.declared.property.Property.{Property}
 use Rattle.rdl_text.specs.declared.property.Property.TheVariants as p
 use Rattle.rdl_text.specs.Components.{Component}
 use Rattle.rdl_values.specs.declared.access.SwAccess.{SwAccess}
-use Rattle.rdl_values.specs.OneInstance.{Instance}
 use Rattle.rdl_values.specs.OneFrame.{Trail}
 use Rattle.rdl_values.specs.Values.{assigned_at, reset_at, in_effect, any_in_effect, is_set}
 use Rattle.rdl_values.specs.Accesses.{sw_word, sw_by, sw_at, word_at, read_of, read_given, read_at}
-use Rattle.rdl_values.specs.Fields.{width_at, takes_data, has_data, is_read_only, is_acted_on, is_wire, starts_known}
-use Rattle.rdl_effects.specs.Fields.{is_no_counter, has_counts, is_miscounted, is_no_interrupt, is_misraised, is_overstep}
-use Rattle.rdl_effects.specs.Registers.{number_or, accesswidth_at}
-use Rattle.rdl_fields.specs.declared.named.NamedExtra.{NamedExtra}
-use Rattle.rdl_fields.specs.declared.named.NamedExtra.TheVariants as given
-use Rattle.rdl_fields.specs.declared.named.NamedCounter.{NamedCounter}
-use Rattle.rdl_fields.specs.declared.named.NamedIntr.{NamedIntr}
+use Rattle.rdl_values.specs.Fields.{takes_data, has_data, is_read_only, is_acted_on, is_wire, starts_known}
 use Rattle.rdl_fields.specs.declared.named.NamedField.{NamedField}
-use Rattle.rdl_fields.specs.Parts.{read_if, reset_if, counter_at, intr_at, extra_at}
-use Rattle.rdl_map.specs.declared.signal.InputNumbers.{InputNumbers}
+use Rattle.rdl_fields.specs.Parts.{read_if, reset_if}
 use Rattle.rdl_map.specs.Signals.{count_at, number_if, numbers_from}
-use Rattle.rdl_map.specs.Extras.{IsExtraOf, IsCounterOf}
 use Rattle.rdl_map.specs.Fields.{IsFieldWith, IsFieldOf, AreFrom}
 use Rattle.rdl_regmap.proofs.Has.{Has, has_at}
 use Rattle.rdl_regmap.proofs.Instances.{no_left, no_right, yes_left, yes_right, no_by_not, same_bytes}
-use Rattle.rdl_regmap.proofs.Givens.{IsClear, IsGiven, IsField, trail_of, field_is}
+use Rattle.rdl_regmap.proofs.Givens.{IsGiven, IsField, trail_of, field_is}
 use Rattle.rdl_regmap.proofs.Words.{AreValued, are_valued, AreNumbers, are_numbers}
-use Rattle.rdl_regmap.proofs.Tells.{AreSteps, are_steps, no_counter}
 use Rattle.rdl_regmap.proofs.Sums.{width_in, sum_cons}
 use Rattle.rdl_regmap.proofs.MapTold.{AreParts, given_of, widths_below, few_fields, few_words}
 
@@ -242,5 +226,5 @@ are_wires top words given fields m = record {
       let w : WireFacts (trail_of top h.field h.source) = wire_facts (trail_of top h.field h.source) (sym (wire_of top words given k f h) ∙ on) in
       let out : in_effect (trail_of top h.field h.source) p.Onread ≡ false = none_in_effect (trail_of top h.field h.source) (p.Intr ∷ p.We ∷ p.Wel ∷ p.Hwset ∷ p.Hwclr ∷ p.Hwenable ∷ p.Hwmask ∷ p.Onread ∷ p.Singlepulse ∷ []) p.Onread w.alone (inr (inr (inr (inr (inr (inr (inr (inl refl)))))))) in
       h.is.rest.read ∙ ap (λ (x : NamedField). x.software.read) h.source.field.is
-          ∙ kept_if (sw_at (trail_of top h.field h.source)).readable (trail_of top h.field h.source) (kept_given (assigned_at (trail_of top h.field h.source) p.Onread) out);
+      ∙ kept_if (sw_at (trail_of top h.field h.source)).readable (trail_of top h.field h.source) (kept_given (assigned_at (trail_of top h.field h.source) p.Onread) out);
 }

@@ -1,5 +1,5 @@
 -- The map of a description that nothing refuses can be told.
-use Rattle.std.proofs.Common.{◌≡◌, ◌⊎◌, inl, inr, ℕ, zero, suc, ◌+◌, ◌<◌, ◌≤◌, Bool, true, false, ◌&&◌, ◌||◌, nat_lt, List, [], ◌∷◌, ◌++◌, length, map, Option, Some, None, sum_by, refl, sym, ◌∙◌, ap, subst, arith}
+use Rattle.std.proofs.Common.{◌≡◌, inl, inr, ℕ, ◌+◌, ◌<◌, ◌≤◌, Bool, true, false, ◌&&◌, nat_lt, List, [], ◌∷◌, length, map, Option, Some, sum_by, refl, sym, ◌∙◌, ap, subst, arith}
 use Rattle.std.specs.List.{list_all}
 use Rattle.std.specs.List.Sorted.{IsPermutation}
 use Rattle.std.proofs.lemmas.Bool.{true≢false}
@@ -7,21 +7,17 @@ use Rattle.std.proofs.lemmas.Bool.Decides.{nat_tests}
 use Rattle.std.proofs.lemmas.List.Sorted.{length_permutation, IsPermutation-sym, sum_by-IsPermutation}
 use Rattle.std.proofs.lemmas.List.{length-map}
 use Rattle.rdl_tree.specs.declared.tree.RdlFile.{RdlFile}
-use Rattle.rdl_text.specs.declared.instance.Body.TheVariants as body
 use Rattle.rdl_text.specs.Components.{Component}
-use Rattle.rdl_text.specs.Instances.{kind_of, is_field}
-use Rattle.rdl_values.specs.OneFrame.{Trail}
+use Rattle.rdl_text.specs.Instances.{is_field}
 use Rattle.rdl_values.specs.Instances.{top_of}
 use Rattle.rdl_values.specs.Fields.{width_at}
 use Rattle.rdl_effects.specs.Registers.{accesswidth_at}
 use Rattle.rdl_layout.specs.declared.register.Register.{Register}
-use Rattle.rdl_layout.specs.Bits.{bits_of, low_of}
+use Rattle.rdl_layout.specs.Bits.{low_of}
 use Rattle.rdl_layout.specs.Registers.{registers_of, registers_below}
 use Rattle.rdl_words.specs.Words.{spots_of}
 use Rattle.rdl_numbers.specs.Orders.{AreWords, AreFields, address_of}
 use Rattle.rdl_fields.specs.declared.named.NamedField.{NamedField}
-use Rattle.rdl_fields.specs.Fields.{field_at}
-use Rattle.rdl_fields.specs.Parts.{inputs_at}
 use Rattle.rdl_fields.specs.Registers.{fields_of, fields_below}
 use Rattle.rdl_map.specs.Signals.{numbers_from, count_at}
 use Rattle.rdl_map.specs.Extras.{is_extra_told}
@@ -31,7 +27,6 @@ use Rattle.rdl_elab.specs.Refusals.{IsFine, whole, is_large, bits_in}
 use Rattle.rdl_regmap.proofs.Has.{OptionCase, option_case, Has, has_permuted}
 use Rattle.rdl_regmap.proofs.Instances.{no_left, no_right}
 use Rattle.rdl_regmap.proofs.References.{HasField}
-use Rattle.rdl_regmap.proofs.Told.{IsBelow}
 use Rattle.rdl_regmap.proofs.Givens.{IsClear, IsGiven, IsField, trail_of, field_is, given_is}
 use Rattle.rdl_regmap.proofs.Words.{AreValued, are_valued, AreNumbers, are_numbers, position_told}
 use Rattle.rdl_regmap.proofs.Tells.{FindsEach, finds_each, gates_told, extra_told}
@@ -76,9 +71,9 @@ told top words given parts g h base =
     let v : AreValued (trail_of top g i) = are_valued (trail_of top g i) f.valued in
     let narrow : width_at (trail_of top g i) ≤ 32 = subst (λ m. m ≤ 32) n.width (omega (arith, n.within, n.access)) in
     let gates : are_gates_told given (numbers_from base g.inputs) g ≡ true =
-        subst (λ (x : NamedField). are_gates_told given (numbers_from base x.inputs) x ≡ true) (sym i.field.is) (gates_told given base i.visit.address (accesswidth_at i.visit.trail) (low_of i.field.next i.field.instance.inst.range) (trail_of top g i) e) in
+    subst (λ (x : NamedField). are_gates_told given (numbers_from base x.inputs) x ≡ true) (sym i.field.is) (gates_told given base i.visit.address (accesswidth_at i.visit.trail) (low_of i.field.next i.field.instance.inst.range) (trail_of top g i) e) in
     let counts : is_extra_told given (numbers_from base g.inputs) g.extra ≡ true =
-        subst (λ (x : NamedField). is_extra_told given (numbers_from base x.inputs) x.extra ≡ true) (sym i.field.is) (extra_told given base (trail_of top g i) e f.some narrow v.counted) in
+    subst (λ (x : NamedField). is_extra_told given (numbers_from base x.inputs) x.extra ≡ true) (sym i.field.is) (extra_told given base (trail_of top g i) e f.some narrow v.counted) in
     both (is_position_told words g) _ (position_told top g words parts.clear i parts.words_are) (both (are_gates_told given (numbers_from base g.inputs) g) _ gates counts)
 
 all_told : (words : List ℕ) (given : List NamedField) (base : ℕ) (gs : List NamedField) → ((g : NamedField) → Has g gs → (b : ℕ) → is_told words given b g ≡ true) → are_told words given base gs ≡ true
@@ -115,7 +110,7 @@ map_told top words given parts =
     both (nat_lt (length words) 4294967296) _ (grind (arith, nat_tests, w))
     (both (nat_lt (length given) 134217728) _ (grind (arith, nat_tests, f))
     (both (list_all is_narrow given) _ (all_narrow given (λ g h.
-        let n : AreNumbers top g (given_of top words given parts g h) = are_numbers top g parts.clear (given_of top words given parts g h) in omega (arith, n.within, n.access)))
+    let n : AreNumbers top g (given_of top words given parts g h) = are_numbers top g parts.clear (given_of top words given parts g h) in omega (arith, n.within, n.access)))
     (all_told words given 0 given (told top words given parts))))
 
 -- ---- from a file

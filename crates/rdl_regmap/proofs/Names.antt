@@ -1,7 +1,7 @@
 -- No two instances of a body in whose text nothing is refused have one name.
-use Rattle.std.proofs.Common.{◌≡◌, ◌⊎◌, inl, inr, ℕ, zero, suc, ◌+◌, ◌<◌, Bool, true, false, ◌&&◌, ◌||◌, not, List, [], ◌∷◌, ◌++◌, length, Option, Some, None, bytes_eq, refl, sym, ◌∙◌, ap, subst, arith, if◌then◌else◌}
+use Rattle.std.proofs.Common.{◌≡◌, inl, inr, ℕ, Bool, true, false, ◌||◌, List, [], ◌∷◌, ◌++◌, Option, Some, None, bytes_eq, refl, sym, ◌∙◌, ap, subst}
 use Rattle.std.specs.List.{list_any, IsDistinct}
-use Rattle.std.proofs.lemmas.Bool.{cases_Bool, true≢false}
+use Rattle.std.proofs.lemmas.Bool.{true≢false}
 use Rattle.std.proofs.lemmas.Slice.Eq.{bytes_eq-Decides}
 use Rattle.rdl_tree.specs.declared.tree.RdlItem.{RdlItem, out-RdlItem}
 use Rattle.rdl_tree.specs.declared.tree.RdlItem.TheOpen.{RdlItem-F}
@@ -14,7 +14,7 @@ use Rattle.rdl_text.specs.declared.instance.Body.{Body}
 use Rattle.rdl_text.specs.declared.text.Check.TheVariants as check
 use Rattle.rdl_text.specs.Chains.{Chain}
 use Rattle.rdl_text.specs.Components.{Component}
-use Rattle.rdl_text.specs.Instances.{kind_of, body_of}
+use Rattle.rdl_text.specs.Instances.{kind_of}
 use Rattle.rdl_text.specs.Types.{type_of}
 use Rattle.rdl_text.specs.Names.{is_among, has_inst, has_any_inst, instantiates, is_instantiated, repeated, repeated_next, repeated_any}
 use Rattle.rdl_values.specs.OneInstance.{Instance}
@@ -48,10 +48,10 @@ next_new c before first seen (n ∷ ns) j none h =
     let two : (is_instantiated before n.inst.name.text || is_text n.inst.name.text first.name) ≡ false = no_left _ (is_among n.inst.name.text seen) here in
     elim h [
       | inl e ↦ subst (λ (x : Instance). IsNew before first seen x) (sym e) (record {
-          before_it = no_left (is_instantiated before n.inst.name.text) _ two;
-          first_one = no_right (is_instantiated before n.inst.name.text) _ two;
-          seen_ones = λ m i. none_among n.inst.name.text seen m (no_right (is_instantiated before n.inst.name.text || is_text n.inst.name.text first.name) _ here) i;
-        })
+        before_it = no_left (is_instantiated before n.inst.name.text) _ two;
+        first_one = no_right (is_instantiated before n.inst.name.text) _ two;
+        seen_ones = λ m i. none_among n.inst.name.text seen m (no_right (is_instantiated before n.inst.name.text || is_text n.inst.name.text first.name) _ here) i;
+      })
       | inr r ↦
           let q : IsNew before first (seen ++ n ∷ []) j = next_new c before first (seen ++ n ∷ []) ns j (none_right _ _ none) r in
           record { before_it = q.before_it; first_one = q.first_one; seen_ones = λ m i. q.seen_ones m (has_left m seen (n ∷ []) i) }
@@ -60,16 +60,18 @@ next_new c before first seen (n ∷ ns) j none h =
 next_distinct : (c : Component) (before : List RdlItem) (first : RdlInst) (seen ns : List RdlNextInst) → repeated_next before first seen ns ≡ [] → IsDistinct same_name (next_with c ns)
 unfolding IsDistinct
 next_distinct c before first seen [] none = tt
-next_distinct c before first seen (n ∷ ns) none =
-    (all_by (λ (j : Instance). same_name (record { inst = n.inst; component = c }) j ≡ false) (next_with c ns) (λ j h.
-        (next_new c before first (seen ++ n ∷ []) ns j (none_right _ _ none) h).seen_ones n (has_right n seen (n ∷ []) (inl refl))),
-     next_distinct c before first (seen ++ n ∷ []) ns (none_right _ _ none))
+next_distinct c before first seen (n ∷ ns) none = (
+  all_by (λ (j : Instance). same_name (record { inst = n.inst; component = c }) j ≡ false) (next_with c ns) (λ j h.
+      (next_new c before first (seen ++ n ∷ []) ns j (none_right _ _ none) h).seen_ones n (has_right n seen (n ∷ []) (inl refl))),
+  next_distinct c before first (seen ++ n ∷ []) ns (none_right _ _ none),
+)
 
 all_distinct : (c : Component) (before : List RdlItem) (is : RdlInsts) → repeated before is ≡ [] → IsDistinct same_name (all_with c is)
 unfolding IsDistinct
-all_distinct c before is none =
-    (all_by (λ (j : Instance). same_name (record { inst = is.first; component = c }) j ≡ false) (next_with c is.more) (λ j h. (next_new c before is.first [] is.more j (none_right _ _ none) h).first_one),
-     next_distinct c before is.first [] is.more (none_right _ _ none))
+all_distinct c before is none = (
+  all_by (λ (j : Instance). same_name (record { inst = is.first; component = c }) j ≡ false) (next_with c is.more) (λ j h. (next_new c before is.first [] is.more j (none_right _ _ none) h).first_one),
+  next_distinct c before is.first [] is.more (none_right _ _ none),
+)
 
 all_new : (c : Component) (before : List RdlItem) (is : RdlInsts) (j : Instance) → repeated before is ≡ [] → Has j (all_with c is) → is_instantiated before j.inst.name.text ≡ false
 all_new c before is j none h = elim h [

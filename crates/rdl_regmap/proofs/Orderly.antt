@@ -1,9 +1,8 @@
 -- The map of a description that nothing refuses is orderly.
-use Rattle.std.proofs.Common.{◌≡◌, ◌⊎◌, inl, inr, ℕ, Bool, true, false, not, List, [], ◌∷◌, ◌++◌, Option, Some, None, slice_get, refl, sym, ◌∙◌, ap, subst, arith, if◌then◌else◌}
-use Rattle.bit_base.specs.declared.place.Place.{Place}
+use Rattle.std.proofs.Common.{◌≡◌, inr, ℕ, Bool, true, false, not, List, [], ◌∷◌, ◌++◌, Option, Some, None, slice_get, refl, sym, ◌∙◌, ap, subst, arith}
 use Rattle.field_policies.specs.declared.field.Field.{Field}
 use Rattle.field_policies.specs.declared.signal.HwInput.{HwInput}
-use Rattle.field_policies.specs.Maps.{IsBus, AreInWords, AreInRange, input_width}
+use Rattle.field_policies.specs.Maps.{IsBus, AreInWords, input_width}
 use Rattle.rdl_tree.specs.declared.tree.RdlFile.{RdlFile}
 use Rattle.rdl_tree.specs.declared.tree.RdlItem.{RdlItem, out-RdlItem}
 use Rattle.rdl_tree.specs.declared.tree.RdlItem.TheOpen.{RdlItem-F}
@@ -11,8 +10,7 @@ use Rattle.rdl_tree.specs.declared.tree.RdlDef.{RdlDef}
 use Rattle.rdl_text.specs.Components.{Component}
 use Rattle.rdl_text.specs.Names.{can_be_top, has_top}
 use Rattle.rdl_values.specs.Instances.{top_by, top_from, top_of}
-use Rattle.rdl_layout.specs.declared.register.Register.{Register}
-use Rattle.rdl_layout.specs.Registers.{registers_of, registers_below}
+use Rattle.rdl_layout.specs.Registers.{registers_below}
 use Rattle.rdl_words.specs.Words.{spots_of}
 use Rattle.rdl_words.specs.Clashes.{IsClash}
 use Rattle.rdl_fields.specs.declared.named.NamedField.{NamedField}

@@ -1,7 +1,7 @@
 -- The fields of a description have paths of the form of a path, and no two have one.
-use Rattle.std.proofs.Common.{◌≡◌, ◌≢◌, ◌⊎◌, inl, inr, ℕ, zero, suc, ◌+◌, ◌-◌, ◌*◌, ◌/◌, ◌%◌, ◌^◌, ◌<◌, ◌≤◌, Bool, true, false, ◌&&◌, ◌||◌, not, nat_lt, nat_le, List, [], ◌∷◌, ◌++◌, length, map, drop, Option, Some, None, is_some, IsTrue, slice_get, bytes_eq, refl, sym, ◌∙◌, ap, subst, arith, append_assoc, append-nil, if◌then◌else◌}
+use Rattle.std.proofs.Common.{◌≡◌, ◌⊎◌, inl, inr, ℕ, zero, suc, ◌+◌, ◌*◌, ◌/◌, ◌%◌, ◌^◌, ◌<◌, ◌≤◌, Bool, true, false, ◌&&◌, ◌||◌, not, nat_le, List, [], ◌∷◌, ◌++◌, length, map, Option, Some, None, is_some, bytes_eq, refl, sym, ◌∙◌, ap, subst, arith, append_assoc, append-nil, if◌then◌else◌}
 use Rattle.std.specs.Prelude.{⊤}
-use Rattle.std.specs.List.{list_all, flat_map, IsDistinct, AllByRecursion}
+use Rattle.std.specs.List.{list_all, IsDistinct, AllByRecursion}
 use Rattle.std.specs.Option.{option_map}
 use Rattle.std.specs.Fmt.{decimal}
 use Rattle.std.proofs.lemmas.Bool.{cases_Bool, cases_eq, true≢false}
@@ -10,9 +10,8 @@ use Rattle.std.proofs.lemmas.Slice.Eq.{bytes_eq-Decides}
 use Rattle.std.proofs.lemmas.List.{map-append}
 use Rattle.std.proofs.lemmas.List.Folds.{list_all-append}
 use Rattle.std.proofs.lemmas.Fmt.{decimal_digit, decimal_by_steps, decimal_injective}
-use Rattle.field_policies.specs.FieldPath.{Step, IsFieldPath, is_letter, is_digit, is_name, is_index, index_text, step_text, path_text}
+use Rattle.field_policies.specs.FieldPath.{Step, is_letter, is_digit, is_name, is_index, index_text, step_text, path_text}
 use Rattle.rdl_tree.specs.declared.tree.RdlRange.{RdlRange}
-use Rattle.rdl_tree.specs.declared.tree.RdlDef.{out-RdlDef}
 use Rattle.rdl_text.specs.declared.instance.Body.{Body}
 use Rattle.rdl_text.specs.declared.instance.Body.TheVariants as body
 use Rattle.rdl_text.specs.Components.{Component}
@@ -22,22 +21,22 @@ use Rattle.rdl_values.specs.OneFrame.{Target, Frame, Trail}
 use Rattle.rdl_values.specs.Frames.{frame_of}
 use Rattle.rdl_values.specs.Instances.{instances_of, elements_in, count_of}
 use Rattle.rdl_values.specs.Values.{is_array}
-use Rattle.rdl_effects.specs.Limits.{number_with, numbers_with, number_inside, number_in}
+use Rattle.rdl_effects.specs.Limits.{number_with, number_inside, number_in}
 use Rattle.rdl_effects.specs.Registers.{accesswidth_at}
 use Rattle.rdl_effects.proofs.Numbers.{inside_some}
 use Rattle.rdl_layout.specs.declared.size.Extent.{Extent}
 use Rattle.rdl_layout.specs.Bits.{bits_of}
 use Rattle.rdl_layout.specs.Laid.{Sized, size_in, extent_of}
-use Rattle.rdl_layout.specs.Walks.{Gives, address_of, over, over_elements, over_instances, over_inside}
+use Rattle.rdl_layout.specs.Walks.{Gives, address_of, over, over_elements, over_instances}
 use Rattle.rdl_fields.specs.declared.named.NamedField.{NamedField}
-use Rattle.rdl_fields.specs.Paths.{step_of, step_by, element_of, path_at, dotted}
-use Rattle.rdl_fields.specs.Registers.{field_in, fields_in, fields_by, fields_at, fields_below}
+use Rattle.rdl_fields.specs.Paths.{step_of, dotted}
+use Rattle.rdl_fields.specs.Registers.{field_in, fields_in, fields_by, fields_at}
 use Rattle.rdl_fields.proofs.Paths.{path_dotted}
-use Rattle.rdl_regmap.proofs.Has.{Has, has_none, has_left, has_right, has_cases}
+use Rattle.rdl_regmap.proofs.Has.{Has, has_none, has_cases}
 use Rattle.rdl_regmap.proofs.Trails.{targets_in}
 use Rattle.rdl_regmap.proofs.Depths.{one_counts, among_counts}
 use Rattle.rdl_regmap.proofs.Bodies.{FineComponent}
-use Rattle.rdl_regmap.proofs.Instances.{yes_left, yes_right, IsInstance, instance_is}
+use Rattle.rdl_regmap.proofs.Instances.{yes_left, yes_right, instance_is}
 use Rattle.rdl_regmap.proofs.Places.{all_by, of_all, distinct_append}
 use Rattle.rdl_regmap.proofs.Names.{same_name, names_differ}
 use Rattle.rdl_regmap.proofs.Spelled.{FitsComponent, IsSpelled, is_spelled}
@@ -134,7 +133,7 @@ same_step : (s t : Step) (ss ts : List Step) → GoodStep s → GoodStep t → s
 same_step s t ss ts p q e =
     let r : s.name ++ (index_text s.element ++ dotted ss) ≡ t.name ++ (index_text t.element ++ dotted ts) = sym (append_assoc s.name (index_text s.element) (dotted ss)) ∙ e ∙ append_assoc t.name (index_text t.element) (dotted ts) in
     let n : (s.name ≡ t.name) × (index_text s.element ++ dotted ss ≡ index_text t.element ++ dotted ts) =
-        one_front word s.name t.name _ _ (all_word s.name p.name) (all_word t.name q.name) (index_stops s.element ss) (index_stops t.element ts) r in
+    one_front word s.name t.name _ _ (all_word s.name p.name) (all_word t.name q.name) (index_stops s.element ss) (index_stops t.element ts) r in
     let i : (s.element ≡ t.element) × (dotted ss ≡ dotted ts) = same_index s.element t.element ss ts p.index q.index n.1 in
     (ap (λ (x : List ℕ). record { name = x; element = s.element }) n.0 ∙ ap (λ (x : Option (List ℕ)). record { name = t.name; element = x }) i.0, i.1)
 
@@ -321,15 +320,17 @@ of_register register access up targets next (i ∷ is) good spelled all d =
     let s : Step = step_of (frame_of targets i 0) in
     let g : NamedField = field_in register access up targets i (bits_of up targets next i) in
     let own : HasStep (map step_of up) (step_of (frame_of targets i 0)) (field_in register access up targets i (bits_of up targets next i)) =
-        record { rest = []; path = ap path_text (map-append step_of up (frame_of targets i 0 ∷ [])); good = steps_good (map step_of up) (step_of (frame_of targets i 0)) good (good_step targets i 0 (spelled i (inl refl)) (omega arith)) } in
+    record { rest = []; path = ap path_text (map-append step_of up (frame_of targets i 0 ∷ [])); good = steps_good (map step_of up) (step_of (frame_of targets i 0)) good (good_step targets i 0 (spelled i (inl refl)) (omega arith)) } in
     let more : OfRegister up targets (fields_in register access up targets (bits_of up targets next i).end is) is =
-        of_register register access up targets (bits_of up targets next i).end is good (λ j h. spelled j (inr h)) (λ j h. all j (inr h)) d.1 in
+    of_register register access up targets (bits_of up targets next i).end is good (λ j h. spelled j (inr h)) (λ j h. all j (inr h)) d.1 in
     record {
-      distinct = (all_by (λ (h : NamedField). same_path (field_in register access up targets i (bits_of up targets next i)) h ≡ false) (fields_in register access up targets (bits_of up targets next i).end is) (λ h k.
-              let x : InInstance up targets h is = more.each h k in
-              differ (map step_of up) (step_of (frame_of targets i 0)) (step_of (frame_of targets x.instance x.number)) _ h own x.way (λ e.
-                  true≢false (sym ((bytes_eq-Decides i.inst.name.text x.instance.inst.name.text).1 (ap (λ (z : Step). z.name) e)) ∙ of_all (λ z. same_name i z ≡ false) is x.instance d.0 x.among))),
-          more.distinct);
+      distinct = (
+        all_by (λ (h : NamedField). same_path (field_in register access up targets i (bits_of up targets next i)) h ≡ false) (fields_in register access up targets (bits_of up targets next i).end is) (λ h k.
+            let x : InInstance up targets h is = more.each h k in
+            differ (map step_of up) (step_of (frame_of targets i 0)) (step_of (frame_of targets x.instance x.number)) _ h own x.way (λ e.
+            true≢false (sym ((bytes_eq-Decides i.inst.name.text x.instance.inst.name.text).1 (ap (λ (z : Step). z.name) e)) ∙ of_all (λ z. same_name i z ≡ false) is x.instance d.0 x.among))),
+        more.distinct,
+      );
       each = λ h k. elim k [
         | inl e ↦ subst (λ (z : NamedField). InInstance up targets z (i ∷ is)) (sym e) (record { instance = i; among = inl refl; number = 0; below = one_field i (all i (inl refl)); way = own })
         | inr r ↦ let x : InInstance up targets h is = more.each h r in record { instance = x.instance; among = inr x.among; number = x.number; below = x.below; way = x.way }
@@ -368,8 +369,8 @@ of_elements go base up targets i x (suc n) on few le =
       distinct = distinct_append same_path (over_elements go base up targets i x n) _ before.distinct here.distinct (λ g h a b.
           let p : ByElement up targets i n g = before.each g a in
           differ (map step_of up) (step_of (frame_of targets i p.number)) (step_of (frame_of targets i n)) g h p.way (to_step up (frame_of targets i n) h (here.each h b)) (λ e.
-              let s : p.number ≡ n = same_element i p.number n targets (omega (arith, p.below, le)) (omega (arith, le)) (omega (arith, p.below, le, few)) (omega (arith, le, few)) e in
-              omega (arith, s, p.below)));
+          let s : p.number ≡ n = same_element i p.number n targets (omega (arith, p.below, le)) (omega (arith, le)) (omega (arith, p.below, le, few)) (omega (arith, le, few)) e in
+          omega (arith, s, p.below)));
       each = λ g h. elim (has_cases g (over_elements go base up targets i x n) _ h) [
         | inl l ↦ let p : ByElement up targets i n g = before.each g l in record { number = p.number; below = omega (arith, p.below); way = p.way }
         | inr r ↦ record { number = n; below = omega arith; way = to_step up (frame_of targets i n) g (here.each g r) }
@@ -398,22 +399,22 @@ of_instances go size base up targets next [] on few d = record { distinct = no_f
 of_instances go size base up targets next (i ∷ is) on few d = choose up targets (i ∷ is) (is_field (kind_of i.component)) _ _
     (λ e. of_none up targets i is _ (of_instances go size base up targets next is (λ j h. on j (inr h)) (λ j h. few j (inr h)) d.1))
     (λ e.
-        let x : Extent = extent_of size up targets next i in
-        let here : OfElements up targets i (count_of i) (over_elements go base up targets i (extent_of size up targets next i) (count_of i)) =
-            of_elements go base up targets i (extent_of size up targets next i) (count_of i) (on i (inl refl) e) (few i (inl refl) e) (omega arith) in
-        let more : OfInstances up targets is (over_instances go size base up targets (extent_of size up targets next i).end is) =
-            of_instances go size base up targets (extent_of size up targets next i).end is (λ j h. on j (inr h)) (λ j h. few j (inr h)) d.1 in
-        record {
-          distinct = distinct_append same_path (over_elements go base up targets i (extent_of size up targets next i) (count_of i)) _ here.distinct more.distinct (λ g h a b.
-              let p : ByElement up targets i (count_of i) g = here.each g a in
-              let q : InInstance up targets h is = more.each h b in
-              differ (map step_of up) (step_of (frame_of targets i p.number)) (step_of (frame_of targets q.instance q.number)) g h p.way q.way (λ s.
-                  true≢false (sym ((bytes_eq-Decides i.inst.name.text q.instance.inst.name.text).1 (ap (λ (z : Step). z.name) s)) ∙ of_all (λ z. same_name i z ≡ false) is q.instance d.0 q.among)));
-          each = λ g h. elim (has_cases g (over_elements go base up targets i (extent_of size up targets next i) (count_of i)) _ h) [
-            | inl l ↦ let p : ByElement up targets i (count_of i) g = here.each g l in record { instance = i; among = inl refl; number = p.number; below = p.below; way = p.way }
-            | inr r ↦ let q : InInstance up targets g is = more.each g r in record { instance = q.instance; among = inr q.among; number = q.number; below = q.below; way = q.way }
-          ];
-        })
+    let x : Extent = extent_of size up targets next i in
+    let here : OfElements up targets i (count_of i) (over_elements go base up targets i (extent_of size up targets next i) (count_of i)) =
+    of_elements go base up targets i (extent_of size up targets next i) (count_of i) (on i (inl refl) e) (few i (inl refl) e) (omega arith) in
+    let more : OfInstances up targets is (over_instances go size base up targets (extent_of size up targets next i).end is) =
+    of_instances go size base up targets (extent_of size up targets next i).end is (λ j h. on j (inr h)) (λ j h. few j (inr h)) d.1 in
+    record {
+      distinct = distinct_append same_path (over_elements go base up targets i (extent_of size up targets next i) (count_of i)) _ here.distinct more.distinct (λ g h a b.
+          let p : ByElement up targets i (count_of i) g = here.each g a in
+          let q : InInstance up targets h is = more.each h b in
+          differ (map step_of up) (step_of (frame_of targets i p.number)) (step_of (frame_of targets q.instance q.number)) g h p.way q.way (λ s.
+          true≢false (sym ((bytes_eq-Decides i.inst.name.text q.instance.inst.name.text).1 (ap (λ (z : Step). z.name) s)) ∙ of_all (λ z. same_name i z ≡ false) is q.instance d.0 q.among)));
+      each = λ g h. elim (has_cases g (over_elements go base up targets i (extent_of size up targets next i) (count_of i)) _ h) [
+        | inl l ↦ let p : ByElement up targets i (count_of i) g = here.each g l in record { instance = i; among = inl refl; number = p.number; below = p.below; way = p.way }
+        | inr r ↦ let q : InInstance up targets g is = more.each g r in record { instance = q.instance; among = inr q.among; number = q.number; below = q.below; way = q.way }
+      ];
+    })
 
 -- ---- with room
 
@@ -465,7 +466,7 @@ in_register base up c fine fit good = by (kind_of c) refl
     by body.Regfile q = nothing body.Regfile refl q
     by body.Reg q =
         let r : OfRegister up (targets_in c) (fields_in base (accesswidth_at up) up (targets_in c) 0 (instances_of c)) (instances_of c) =
-            of_register base (accesswidth_at up) up (targets_in c) 0 (instances_of c) good (λ i h. is_spelled c i fit h) (only_fields c fine q) (names_differ c fine) in
+        of_register base (accesswidth_at up) up (targets_in c) 0 (instances_of c) good (λ i h. is_spelled c i fit h) (only_fields c fine q) (names_differ c fine) in
         subst (λ (k : Body). OfWalk up (fields_by k base up c)) (sym q)
         (record { distinct = r.distinct; each = λ g h. let x : InInstance up (targets_in c) g (instances_of c) = r.each g h in to_way (map step_of up) _ g x.way })
     by body.Field q = nothing body.Field refl q
@@ -490,17 +491,17 @@ of_walk zero base up c fine fit few good = in_register base up c fine fit good
 of_walk (suc room) base up c fine fit few good =
     let own : OfWalk up (fields_at base up c) = in_register base up c fine fit good in
     let below : OfInstances up (targets_in c) (instances_of c) (over_instances (over fields_at room) (size_in room) base up (targets_in c) 0 (instances_of c)) =
-        of_instances (over fields_at room) (size_in room) base up (targets_in c) 0 (instances_of c)
-        (λ i h plain a k lt.
-            of_walk room a (up ++ frame_of (targets_in c) i k ∷ []) i.component (instance_is c i fine h).fine (is_spelled c i fit h).inside (bounded_inside room c i k few h plain lt)
-            (subst GoodSteps (sym (map-append step_of up (frame_of (targets_in c) i k ∷ []))) (steps_good (map step_of up) (step_of (frame_of (targets_in c) i k)) good
-                (good_step (targets_in c) i k (is_spelled c i fit h) (let b : count_of i < 2 ^ 64 = count_bound room c i few h plain in omega (arith, b, lt))))))
-        (λ i h plain. count_bound room c i few h plain) (names_differ c fine) in
+    of_instances (over fields_at room) (size_in room) base up (targets_in c) 0 (instances_of c)
+    (λ i h plain a k lt.
+    of_walk room a (up ++ frame_of (targets_in c) i k ∷ []) i.component (instance_is c i fine h).fine (is_spelled c i fit h).inside (bounded_inside room c i k few h plain lt)
+    (subst GoodSteps (sym (map-append step_of up (frame_of (targets_in c) i k ∷ []))) (steps_good (map step_of up) (step_of (frame_of (targets_in c) i k)) good
+    (good_step (targets_in c) i k (is_spelled c i fit h) (let b : count_of i < 2 ^ 64 = count_bound room c i few h plain in omega (arith, b, lt))))))
+    (λ i h plain. count_bound room c i few h plain) (names_differ c fine) in
     elim (fields_or_none base up c) [
       | inl none ↦ record {
-          distinct = distinct_append same_path (fields_at base up c) _ own.distinct below.distinct (λ g h a b. absurd (has_none g (fields_at base up c) none a));
-          each = λ g h. elim (has_cases g (fields_at base up c) _ h) [ inl l ↦ own.each g l | inr r ↦ let x : InInstance up (targets_in c) g (instances_of c) = below.each g r in to_way (map step_of up) _ g x.way ];
-        }
+        distinct = distinct_append same_path (fields_at base up c) _ own.distinct below.distinct (λ g h a b. absurd (has_none g (fields_at base up c) none a));
+        each = λ g h. elim (has_cases g (fields_at base up c) _ h) [ inl l ↦ own.each g l | inr r ↦ let x : InInstance up (targets_in c) g (instances_of c) = below.each g r in to_way (map step_of up) _ g x.way ];
+      }
       | inr reg ↦
           let nothing : over_instances (over fields_at room) (size_in room) base up (targets_in c) 0 (instances_of c) ≡ [] = inside_none (over fields_at room) (size_in room) base up (targets_in c) 0 (instances_of c) (only_fields c fine reg) in
           subst (λ (xs : List NamedField). OfWalk up (fields_at base up c ++ xs)) (sym nothing) (subst (λ (xs : List NamedField). OfWalk up xs) (sym (append-nil (fields_at base up c))) own)

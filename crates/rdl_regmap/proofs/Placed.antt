@@ -1,11 +1,10 @@
 -- Where a field stands in a bus word, by what isn't misplaced.
-use Rattle.std.proofs.Common.{◌≡◌, ◌⊎◌, inl, inr, ℕ, zero, suc, ◌+◌, ◌-◌, ◌*◌, ◌/◌, ◌%◌, ◌<◌, ◌≤◌, Bool, true, false, ◌&&◌, ◌||◌, not, ◌==◌, min, nat_lt, List, [], Option, Some, None, refl, sym, ◌∙◌, ap, subst, arith, if◌then◌else◌}
+use Rattle.std.proofs.Common.{◌≡◌, ℕ, ◌+◌, ◌-◌, ◌*◌, ◌/◌, ◌%◌, ◌<◌, ◌≤◌, Bool, true, false, not, ◌==◌, min, nat_lt, List, refl, sym, subst, arith}
 use Rattle.std.proofs.lemmas.Bool.Decides.{nat_tests}
 use Rattle.rdl_text.specs.Forms.{is_reg_width, is_access_width}
 use Rattle.rdl_layout.specs.declared.bits.Bits.{Bits}
-use Rattle.rdl_layout.specs.Bits.{cut, bits_from, is_across, is_on_one, is_misplaced}
-use Rattle.rdl_layout.specs.Misplaced.{is_beyond, is_off}
-use Rattle.rdl_layout.specs.Sizes.{capped, reach}
+use Rattle.rdl_layout.specs.Bits.{bits_from, is_across, is_misplaced}
+use Rattle.rdl_layout.specs.Misplaced.{is_beyond}
 use Rattle.rdl_fields.specs.Fields.{word_of, bit_of}
 use Rattle.rdl_regmap.proofs.Instances.{no_left, no_right, held_by_no}
 

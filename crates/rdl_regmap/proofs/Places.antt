@@ -1,28 +1,22 @@
 -- The words of a map rise and are aligned, and its fields stand in them in order and apart.
-use Rattle.std.proofs.Common.{◌≡◌, ◌≢◌, ◌⊎◌, inl, inr, ℕ, zero, suc, ◌+◌, ◌-◌, ◌*◌, ◌/◌, ◌%◌, ◌<◌, ◌≤◌, Bool, true, false, not, ◌&&◌, ◌||◌, ◌==◌, nat_lt, min, List, [], ◌∷◌, ◌++◌, length, map, Option, Some, None, IsTrue, slice_get, get_or, refl, sym, ◌∙◌, ap, subst, arith, if◌then◌else◌}
-use Rattle.std.specs.List.{flat_map, IsDistinct, AllByRecursion}
-use Rattle.std.specs.List.Sorted.{IsPermutation, IsNonDecreasingBy}
-use Rattle.std.proofs.lemmas.Bool.{cases_Bool, true≢false}
+use Rattle.std.proofs.Common.{◌≡◌, inl, inr, ℕ, zero, suc, ◌+◌, ◌*◌, ◌/◌, ◌%◌, ◌<◌, ◌≤◌, Bool, true, false, not, ◌==◌, nat_lt, List, [], ◌∷◌, ◌++◌, length, map, Option, Some, None, slice_get, get_or, refl, sym, ◌∙◌, ap, subst, arith, if◌then◌else◌}
+use Rattle.std.specs.List.{IsDistinct, AllByRecursion}
+use Rattle.std.specs.List.Sorted.{IsNonDecreasingBy}
+use Rattle.std.proofs.lemmas.Bool.{cases_Bool}
 use Rattle.std.proofs.lemmas.Bool.Decides.{nat_tests}
 use Rattle.std.proofs.lemmas.Option.{slice_get_within, get_or_from_slice_get}
 use Rattle.std.proofs.lemmas.List.{map-append}
 use Rattle.std.proofs.lemmas.Map.Keys.{IsDistinct-IsPermutation}
 use Rattle.bit_base.specs.declared.place.Place.{Place}
-use Rattle.field_policies.specs.declared.field.Field.{Field}
-use Rattle.field_policies.specs.Maps.{EachField, IsBus, AreInWords, is_bus_width}
-use Rattle.rdl_tree.specs.declared.tree.RdlFile.{RdlFile}
+use Rattle.field_policies.specs.Maps.{IsBus, is_bus_width}
 use Rattle.rdl_text.specs.declared.instance.Body.{Body}
 use Rattle.rdl_text.specs.declared.instance.Body.TheVariants as body
 use Rattle.rdl_text.specs.Components.{Component}
 use Rattle.rdl_text.specs.Instances.{kind_of}
-use Rattle.rdl_values.specs.OneInstance.{Instance}
 use Rattle.rdl_values.specs.OneFrame.{Frame, Trail}
-use Rattle.rdl_values.specs.Instances.{top_of, instances_of}
 use Rattle.rdl_values.specs.Values.{here_of}
 use Rattle.rdl_effects.specs.Registers.{regwidth_at, accesswidth_at}
 use Rattle.rdl_layout.specs.declared.register.Register.{Register}
-use Rattle.rdl_layout.specs.declared.bits.Bits.{Bits}
-use Rattle.rdl_layout.specs.Bits.{bits_of, bits_from, bits_at, low_of, width_of, is_crossed, is_on_one, is_across, is_misplaced, misplaced_in}
 use Rattle.rdl_layout.specs.Misplaced.{is_off}
 use Rattle.rdl_layout.specs.Registers.{register_by, register_here, registers_of, registers_below}
 use Rattle.rdl_layout.specs.Registers as layout
@@ -32,22 +26,16 @@ use Rattle.rdl_words.specs.Words.{address_in, spot_in, spots_below, words_in, sp
 use Rattle.rdl_words.specs.Clashes.{IsClash, later}
 use Rattle.rdl_numbers.specs.Orders as orders
 use Rattle.rdl_fields.specs.declared.named.NamedField.{NamedField}
-use Rattle.rdl_fields.specs.Fields.{word_of, bit_of}
-use Rattle.rdl_fields.specs.Registers.{field_in, fields_in, fields_by, fields_at, fields_below}
-use Rattle.rdl_map.specs.Given.{is_at, word_number}
 use Rattle.rdl_map.specs.Maps.{bus_of}
 use Rattle.rdl_elab.specs.Unlike.{IsUnlike}
 use Rattle.rdl_regmap.proofs.Has.{Has, has_left, has_right, has_cases, has_permuted, FromOne, from_flat, has_at}
 use Rattle.rdl_regmap.proofs.Visits.{Visit, visit, at_visit, over_is}
-use Rattle.rdl_regmap.proofs.Trails.{IsTrail, targets_in, IsReached, reached}
-use Rattle.rdl_regmap.proofs.Instances.{no_left, no_right, no_by_not, held_by_no}
-use Rattle.rdl_regmap.proofs.Placed.{IsAccess, AreWidths, IsInside, word_below, word_is, bit_is, not_zero, inside}
+use Rattle.rdl_regmap.proofs.Trails.{IsTrail, IsReached, reached}
+use Rattle.rdl_regmap.proofs.Instances.{held_by_no}
+use Rattle.rdl_regmap.proofs.Placed.{IsAccess}
 use Rattle.rdl_regmap.proofs.Givens as givens
 use Rattle.rdl_regmap.proofs.Givens.{IsClear, IsRegisterAt, IsGiven, IsPlaced, EndsAt, ends_at, trail_of, given_is, bits_are, not_first}
-use Rattle.rdl_regmap.proofs.Words.{IsRegisterOf, register_of, spots_have, words_are, has_map, AreNumbers, are_numbers}
 use Rattle.rdl_regmap.proofs.MapTold.{AreParts}
-use Rattle.rdl_regmap.proofs.Made.{IsMap, Here, here}
-use Rattle.rdl_regmap.proofs.Exprs.{IsFound, found}
 
 -- ---- lists whose elements differ
 
@@ -80,9 +68,10 @@ of_all P (y ∷ xs) x all h = elim h [ inl e ↦ subst P (sym e) all.0 | inr r �
 pub distinct_append : {A : Type 0} (test : A → A → Bool) (xs ys : List A) → IsDistinct test xs → IsDistinct test ys → ((x y : A) → Has x xs → Has y ys → test x y ≡ false) → IsDistinct test (xs ++ ys)
 unfolding IsDistinct
 distinct_append test [] ys d e f = e
-distinct_append test (x ∷ xs) ys d e f =
-    (all_by (λ y. test x y ≡ false) (xs ++ ys) (λ y h. elim (has_cases y xs ys h) [ inl l ↦ of_all (λ z. test x z ≡ false) xs y d.0 l | inr r ↦ f x y (inl refl) r ]),
-     distinct_append test xs ys d.1 e (λ z y h i. f z y (inr h) i))
+distinct_append test (x ∷ xs) ys d e f = (
+  all_by (λ y. test x y ≡ false) (xs ++ ys) (λ y h. elim (has_cases y xs ys h) [ inl l ↦ of_all (λ z. test x z ≡ false) xs y d.0 l | inr r ↦ f x y (inl refl) r ]),
+  distinct_append test xs ys d.1 e (λ z y h i. f z y (inr h) i),
+)
 
 pub distinct_left : {A : Type 0} (test : A → A → Bool) (xs ys : List A) → IsDistinct test (xs ++ ys) → IsDistinct test xs
 unfolding IsDistinct
@@ -253,15 +242,16 @@ has_spot s (x ∷ ss) w h = elim h [ inl e ↦ record { at = 0; spot = x; here =
 pub distinct_spots : (ss : List Spot) → ((q : Place) → IsClash ss q → ⊥) → IsDistinct same_nat (map orders.address_of ss)
 unfolding IsDistinct
 distinct_spots [] none = tt
-distinct_spots (s ∷ ss) none =
-    (all_by (λ w. same_nat s.address w ≡ false) (map orders.address_of ss) (λ w h. elim (cases_Bool (s.address == w)) [
-      | inr e ↦ e
-      | inl e ↦
-          let x : HasSpot s ss w = has_spot s ss w h in
-          let same : s.address ≡ w = grind (arith, nat_tests, e) in
-          absurd (none (later s.place x.spot.place) (record { first = 0; second = suc x.at; a = s; b = x.spot; apart = λ q. omega (arith, q); here = refl; there = x.here; same = same ∙ sym x.address; place = refl }))
-    ]),
-     distinct_spots ss (λ q c. none q (further s ss q c)))
+distinct_spots (s ∷ ss) none = (
+  all_by (λ w. same_nat s.address w ≡ false) (map orders.address_of ss) (λ w h. elim (cases_Bool (s.address == w)) [
+    | inr e ↦ e
+    | inl e ↦
+        let x : HasSpot s ss w = has_spot s ss w h in
+        let same : s.address ≡ w = grind (arith, nat_tests, e) in
+        absurd (none (later s.place x.spot.place) (record { first = 0; second = suc x.at; a = s; b = x.spot; apart = λ q. omega (arith, q); here = refl; there = x.here; same = same ∙ sym x.address; place = refl }))
+  ]),
+  distinct_spots ss (λ q c. none q (further s ss q c)),
+)
 
 -- what holds of the registers of a clear description whose words don't clash
 pub record IsPlain (top : Component) : Type 0 where

@@ -1,15 +1,12 @@
 -- What a reference names is there: where nothing is refused in the text, it leads to a field below the top.
 use Rattle.std.proofs.Common.{◌≡◌, ◌⊎◌, inl, inr, ℕ, zero, suc, ◌+◌, ◌<◌, ◌≤◌, Bool, true, false, ◌&&◌, ◌||◌, not, List, [], ◌∷◌, ◌++◌, length, map, take, Option, Some, None, is_some, refl, sym, ◌∙◌, ap, subst, arith, if◌then◌else◌}
-use Rattle.std.specs.List.{flat_map}
 use Rattle.std.proofs.lemmas.List.{map-append}
-use Rattle.rdl_tree.specs.declared.tree.RdlFile.{RdlFile}
 use Rattle.rdl_tree.specs.declared.tree.RdlItem.{RdlItem, out-RdlItem}
 use Rattle.rdl_tree.specs.declared.tree.RdlItem.TheOpen.{RdlItem-F}
 use Rattle.rdl_tree.specs.declared.tree.RdlDef.{RdlDef, out-RdlDef}
 use Rattle.rdl_tree.specs.declared.tree.RdlPath.{RdlPath}
 use Rattle.rdl_tree.specs.declared.tree.RdlProp.{RdlProp}
 use Rattle.rdl_text.specs.declared.instance.Body.{Body}
-use Rattle.rdl_text.specs.declared.instance.Body.TheVariants as body
 use Rattle.rdl_text.specs.declared.property.Property.{Property}
 use Rattle.rdl_text.specs.declared.property.Row.{Row}
 use Rattle.rdl_text.specs.declared.text.Check.TheVariants as check
@@ -18,9 +15,9 @@ use Rattle.rdl_text.specs.Components.{Component}
 use Rattle.rdl_text.specs.Instances.{kind_of, is_field, lead}
 use Rattle.rdl_text.specs.Properties.{row_of}
 use Rattle.rdl_text.specs.References.{reference_in}
-use Rattle.rdl_text.specs.Names.{is_file, owns, is_of_field, is_lost, is_misassigned, is_misled_at, is_misled}
+use Rattle.rdl_text.specs.Names.{is_file, owns, is_of_field, is_misled}
 use Rattle.rdl_values.specs.OneInstance.{Instance}
-use Rattle.rdl_values.specs.OneFrame.{Target, Frame, Trail}
+use Rattle.rdl_values.specs.OneFrame.{Target, Trail}
 use Rattle.rdl_values.specs.Instances.{instances_of}
 use Rattle.rdl_values.specs.Frames.{target_by, targets_of, frame_of}
 use Rattle.rdl_effects.specs.Registers.{accesswidth_at}
@@ -30,13 +27,13 @@ use Rattle.rdl_fields.specs.declared.named.NamedField.{NamedField}
 use Rattle.rdl_fields.specs.Paths.{step_of, named_steps, path_at, target_of}
 use Rattle.rdl_fields.specs.Registers.{field_in, fields_in, fields_by, fields_at, fields_below}
 use Rattle.field_policies.specs.FieldPath.{Step, path_text}
-use Rattle.rdl_regmap.proofs.Has.{Has, has_left, has_right, has_cases, has_flat, none_left}
-use Rattle.rdl_regmap.proofs.Visits.{Visit, visit, at_visit, over_is}
-use Rattle.rdl_regmap.proofs.Trails.{IsTrail, targets_in, HasNoField, IsVisited, visited}
+use Rattle.rdl_regmap.proofs.Has.{Has, has_cases, has_flat}
+use Rattle.rdl_regmap.proofs.Visits.{visit, at_visit, over_is}
+use Rattle.rdl_regmap.proofs.Trails.{IsTrail, targets_in, IsVisited, visited}
 use Rattle.rdl_regmap.proofs.Depths.{is_shallow}
 use Rattle.rdl_regmap.proofs.Bodies.{Each, NothingRefused, own_none, FineComponent}
 use Rattle.rdl_regmap.proofs.Instances.{no_place, no_right, held_by_no, steps_in, IsLed, led, along, joined, EndsInRegister, ends_in_register}
-use Rattle.rdl_regmap.proofs.Effective.{IsTargeted, IsDynamic, dynamic}
+use Rattle.rdl_regmap.proofs.Effective.{IsDynamic}
 
 -- ---- assignments to paths
 
@@ -111,7 +108,7 @@ has_field top t d fine plain few way field =
     let short : length e.before ≤ 64 = is_shallow top e.before e.register few e.trail e.fieldless in
     let v : IsVisited e.before e.register (over visit 65 0 [] top) = visited 65 0 [] top e.before e.register e.trail e.fieldless (omega (arith, short)) in
     let f : HasField (path_at (e.before ++ frame_of (targets_in e.register) e.instance 0 ∷ [])) (fields_in v.at (accesswidth_at e.before) e.before (targets_in e.register) 0 (instances_of e.register)) =
-        field_of v.at (accesswidth_at e.before) e.before (targets_in e.register) 0 (instances_of e.register) e.instance e.among in
+    field_of v.at (accesswidth_at e.before) e.before (targets_in e.register) 0 (instances_of e.register) e.instance e.among in
     let g : Has f.field (fields_at v.at e.before e.register) = subst (λ (k : Body). Has f.field (fields_by k v.at e.before e.register)) (sym e.kind) f.among in
     record {
       field = f.field;
@@ -128,9 +125,9 @@ pub refers : (top : Component) (t : Trail) (d : Component) (q : Property) (x : R
 refers top t d q x row path fine plain few y named ref =
     let f : FineComponent y.body = along top y.body y.around fine y.way in
     let l : LeadsToField y.body path =
-        leads_to_field y.body y.targeted.target row path f y.targeted.among
-        (subst (λ (z : RdlProp). row_of z.name.text ≡ Some row) (sym y.targeted.prop) named)
-        (subst (λ (z : RdlProp). reference_in row.form z.value ≡ Some path) (sym y.targeted.prop) ref) in
+    leads_to_field y.body y.targeted.target row path f y.targeted.among
+    (subst (λ (z : RdlProp). row_of z.name.text ≡ Some row) (sym y.targeted.prop) named)
+    (subst (λ (z : RdlProp). reference_in row.form z.value ≡ Some path) (sym y.targeted.prop) ref) in
     let s : IsLed y.body (named_steps path) (path.first ∷ steps_in path.more) l.field = led y.body path l.field l.lead in
     let h : HasField (path_at (y.around ++ s.trail)) (fields_below (Some top)) = has_field top (y.around ++ s.trail) l.field fine plain few (joined top y.body l.field y.around s.trail y.way s.way) l.kind in
     record {

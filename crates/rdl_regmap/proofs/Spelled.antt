@@ -1,10 +1,10 @@
 -- The names of instances are names, as the tree's tokens are spelled.
-use Rattle.std.proofs.Common.{◌≡◌, ◌⊎◌, inl, inr, ℕ, zero, suc, ◌+◌, ◌-◌, ◌<◌, ◌≤◌, Bool, true, false, ◌&&◌, ◌||◌, ◌==◌, not, nat_lt, nat_le, List, [], ◌∷◌, ◌++◌, length, Option, Some, None, is_some, codes, refl, sym, ◌∙◌, ap, subst, arith, if◌then◌else◌, append_assoc, rules}
+use Rattle.std.proofs.Common.{◌≡◌, inl, inr, ℕ, ◌-◌, Bool, true, false, ◌&&◌, ◌||◌, ◌==◌, nat_lt, nat_le, List, [], ◌∷◌, ◌++◌, Option, Some, None, codes, refl, sym, ◌∙◌, ap, subst, arith, if◌then◌else◌, rules}
 use Rattle.std.specs.List.{list_all, AllByRecursion}
-use denote.Enum.Bare.{sameb, same_true}
-use Rattle.std.proofs.lemmas.Bool.{cases_Bool, true≢false}
+use denote.Enum.Bare.{same_true}
+use Rattle.std.proofs.lemmas.Bool.{cases_Bool}
 use Rattle.std.proofs.lemmas.Bool.Decides.{nat_tests}
-use Rattle.std.proofs.lemmas.List.Folds.{list_all-map, list_all-append}
+use Rattle.std.proofs.lemmas.List.Folds.{list_all-map}
 use Rattle.field_policies.specs.FieldPath as path
 use Rattle.rdl_tree.specs.contracts.token.RdlTokenKind.{the_type}
 use Rattle.rdl_tree.specs.declared.token.RdlToken.{RdlToken}
@@ -20,20 +20,16 @@ use Rattle.rdl_tree.specs.declared.tree.RdlInsts.{RdlInsts}
 use Rattle.rdl_tree.specs.declared.tree.RdlNextInst.{RdlNextInst}
 use Rattle.rdl_tree.specs.Spelling as spelling
 use Rattle.rdl_tree.specs.Spelling.{is_token, is_word, is_word_byte, digit_of}
-use Rattle.rdl_tree.specs.Tree.{is_kind, is_name, is_reserved, is_text, fits, fits_item, fits_def, fits_item_layer, fits_def_layer, fits_inst, fits_insts, fits_next_inst, fits_use, fits_kind, fits_option, is_named_or_used}
+use Rattle.rdl_tree.specs.Tree.{is_kind, is_name, is_text, fits, fits_item, fits_def, fits_item_layer, fits_def_layer, fits_inst, fits_insts, fits_next_inst, fits_use, fits_kind, fits_option, is_named_or_used}
 use Rattle.rdl_text.specs.declared.scope.Meaning.{Meaning}
 use Rattle.rdl_text.specs.declared.scope.Meaning.TheVariants as meaning
-use Rattle.rdl_text.specs.Lists.{or_else}
 use Rattle.rdl_text.specs.Chains.{Chain}
 use Rattle.rdl_text.specs.Components.{Component}
 use Rattle.rdl_text.specs.Types.{is_named, named_by, named_in, meaning_from, meaning_of, type_of}
 use Rattle.rdl_text.specs.Names.{can_be_top}
 use Rattle.rdl_values.specs.OneInstance.{Instance}
-use Rattle.rdl_values.specs.OneFrame.{Frame, Trail}
-use Rattle.rdl_values.specs.Frames.{frame_of}
 use Rattle.rdl_values.specs.Instances.{next_with, all_with, any_with, used_with, instances_by, instances_from, instances_of, top_by, top_from, top_of}
 use Rattle.rdl_regmap.proofs.Has.{OptionCase, option_case, Has, has_cases}
-use Rattle.rdl_regmap.proofs.Trails.{IsTrail}
 use Rattle.rdl_regmap.proofs.Instances.{yes_left, yes_right}
 
 -- ---- tokens

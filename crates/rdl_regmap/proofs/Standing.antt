@@ -1,8 +1,8 @@
 -- The fields of a map stand in its words in order, each inside of its word, and none on another.
-use Rattle.std.proofs.Common.{◌≡◌, ◌≢◌, ◌⊎◌, inl, inr, ℕ, zero, suc, ◌+◌, ◌-◌, ◌*◌, ◌/◌, ◌%◌, ◌<◌, ◌≤◌, Bool, true, false, not, ◌&&◌, ◌||◌, ◌==◌, nat_lt, min, List, [], ◌∷◌, ◌++◌, length, map, Option, Some, None, slice_get, get_or, refl, sym, ◌∙◌, ap, subst, arith, append_assoc, if◌then◌else◌}
-use Rattle.std.specs.List.{flat_map, list_any, IsDistinct, AllByRecursion}
-use Rattle.std.specs.List.Sorted.{IsPermutation, IsNonDecreasingBy}
-use Rattle.std.proofs.lemmas.Bool.{cases_Bool, true≢false}
+use Rattle.std.proofs.Common.{◌≡◌, inl, inr, ℕ, ◌+◌, ◌*◌, ◌/◌, ◌%◌, ◌<◌, ◌≤◌, Bool, true, false, ◌&&◌, ◌||◌, ◌==◌, nat_lt, List, [], ◌∷◌, ◌++◌, map, Option, Some, None, slice_get, get_or, refl, sym, ◌∙◌, ap, subst, arith, append_assoc}
+use Rattle.std.specs.List.{flat_map, IsDistinct}
+use Rattle.std.specs.List.Sorted.{IsNonDecreasingBy}
+use Rattle.std.proofs.lemmas.Bool.{cases_Bool}
 use Rattle.std.proofs.lemmas.Bool.Decides.{nat_tests}
 use Rattle.std.proofs.lemmas.Option.{slice_get_within, get_or_from_slice_get}
 use Rattle.std.proofs.lemmas.List.{map-append}
@@ -16,7 +16,6 @@ use Rattle.rdl_text.specs.Instances.{kind_of}
 use Rattle.rdl_values.specs.OneInstance.{Instance}
 use Rattle.rdl_values.specs.OneFrame.{Frame, Trail}
 use Rattle.rdl_values.specs.Instances.{instances_of}
-use Rattle.rdl_values.specs.Values.{here_of}
 use Rattle.rdl_values.specs.Fields.{width_at}
 use Rattle.rdl_effects.specs.Registers.{regwidth_at, accesswidth_at}
 use Rattle.rdl_layout.specs.declared.register.Register.{Register}
@@ -25,14 +24,13 @@ use Rattle.rdl_layout.specs.Bits.{bits_of, bits_from, bits_at, low_of, width_of,
 use Rattle.rdl_layout.specs.Registers.{register_by, register_here, registers_below}
 use Rattle.rdl_layout.specs.Registers as layout
 use Rattle.rdl_layout.specs.Walks.{over}
-use Rattle.rdl_words.specs.Words.{address_in, spots_below, words_in, spots_of}
+use Rattle.rdl_words.specs.Words.{spots_below, words_in, spots_of}
 use Rattle.rdl_numbers.specs.Orders as orders
 use Rattle.rdl_fields.specs.declared.named.NamedField.{NamedField}
-use Rattle.rdl_fields.specs.Fields.{word_of, bit_of}
 use Rattle.rdl_fields.specs.Registers.{field_in, fields_in, fields_by, fields_at, fields_below}
 use Rattle.rdl_map.specs.Given.{is_at, word_number}
 use Rattle.rdl_map.specs.Maps.{bus_of}
-use Rattle.rdl_regmap.proofs.Has.{Has, has_left, has_right, has_cases, has_at, FromOne, from_flat}
+use Rattle.rdl_regmap.proofs.Has.{Has, has_left, has_right, has_cases}
 use Rattle.rdl_regmap.proofs.Visits.{Visit, visit, at_visit, over_is}
 use Rattle.rdl_regmap.proofs.Trails.{targets_in}
 use Rattle.rdl_regmap.proofs.Instances.{no_left, no_right}
@@ -44,7 +42,7 @@ use Rattle.rdl_regmap.proofs.Sums.{end_is}
 use Rattle.rdl_regmap.proofs.MapTold.{AreParts}
 use Rattle.rdl_regmap.proofs.Made.{IsMap, Here, here}
 use Rattle.rdl_regmap.proofs.Exprs.{IsFound, found}
-use Rattle.rdl_regmap.proofs.Places.{all_by, distinct_at, distinct_append, distinct_left, distinct_right, distinct_across, same_nat, one_access, bus_is, IsPlain, distinct_spots, distinct_words, words_rise}
+use Rattle.rdl_regmap.proofs.Places.{all_by, distinct_at, distinct_append, distinct_right, distinct_across, same_nat, one_access, bus_is, IsPlain, distinct_spots, distinct_words, words_rise}
 
 -- two fields have a bit of a bus word in common
 abbrev pub is_overlap : NamedField → NamedField → Bool
@@ -93,13 +91,13 @@ apart_by : (address access low bits low_2 bits_2 : ℕ) (g h : NamedField) → I
     → (nat_lt low (low_2 + bits_2) && nat_lt low_2 (low + bits)) ≡ false → is_overlap g h ≡ false
 apart_by address access low bits low_2 bits_2 g h a x y out =
     all_true (g.spot.word == h.spot.word) (nat_lt g.spot.lsb (h.spot.lsb + h.spot.width)) (nat_lt h.spot.lsb (g.spot.lsb + g.spot.width)) (λ s t u.
-        let w : g.spot.word ≡ h.spot.word = grind (arith, nat_tests, s) in
-        let q : low / access ≡ low_2 / access = same_quotient access address (low / access) (low_2 / access) a (sym x.word ∙ w ∙ y.word) in
-        let b : g.spot.lsb < h.spot.lsb + h.spot.width = grind (arith, nat_tests, t) in
-        let c : h.spot.lsb < g.spot.lsb + g.spot.width = grind (arith, nat_tests, u) in
-        let d : low % access < low_2 % access + bits_2 = rw (x.lsb, y.lsb, y.width) at b in
-        let e : low_2 % access < low % access + bits = rw (x.lsb, y.lsb, x.width) at c in
-        crossed low (low + bits) low_2 (low_2 + bits_2) (split access low low_2 bits_2 a q d) (split access low_2 low bits a (sym q) e) out)
+    let w : g.spot.word ≡ h.spot.word = grind (arith, nat_tests, s) in
+    let q : low / access ≡ low_2 / access = same_quotient access address (low / access) (low_2 / access) a (sym x.word ∙ w ∙ y.word) in
+    let b : g.spot.lsb < h.spot.lsb + h.spot.width = grind (arith, nat_tests, t) in
+    let c : h.spot.lsb < g.spot.lsb + g.spot.width = grind (arith, nat_tests, u) in
+    let d : low % access < low_2 % access + bits_2 = rw (x.lsb, y.lsb, y.width) at b in
+    let e : low_2 % access < low % access + bits = rw (x.lsb, y.lsb, x.width) at c in
+    crossed low (low + bits) low_2 (low_2 + bits_2) (split access low low_2 bits_2 a q d) (split access low_2 low bits a (sym q) e) out)
 
 has_bits : (width access address : ℕ) (t : Trail) (c : Component) (next : ℕ) (i : Instance) → AreWidths width access
     → HasBits address access (low_of next i.inst.range) (width_of t (targets_in c) i) (field_in address access t (targets_in c) i (bits_of t (targets_in c) next i))
@@ -122,16 +120,16 @@ behind : (width access address : ℕ) (t : Trail) (c : Component) (b : Bits) (se
 behind width access address t c b seen next [] g w in_it none h = absurd h
 behind width access address t c b seen next (i ∷ is) g w in_it none h =
     let e : (is_misplaced width access seen (bits_of t (targets_in c) next i) ≡ false)
-        × (misplaced_in t (targets_in c) width access (seen ++ bits_of t (targets_in c) next i ∷ []) (bits_of t (targets_in c) next i).end is ≡ None) =
-        not_first (is_misplaced width access seen (bits_of t (targets_in c) next i)) i.inst.name.place _ none in
+    × (misplaced_in t (targets_in c) width access (seen ++ bits_of t (targets_in c) next i ∷ []) (bits_of t (targets_in c) next i).end is ≡ None) =
+    not_first (is_misplaced width access seen (bits_of t (targets_in c) next i)) i.inst.name.place _ none in
     elim h [
       | inl s ↦ record {
-          low = low_of next i.inst.range;
-          bits = width_of t (targets_in c) i;
-          has = subst (λ (x : NamedField). HasBits address access (low_of next i.inst.range) (width_of t (targets_in c) i) x) (sym s) (has_bits width access address t c next i w);
-          clear = any_not b seen (bits_of t (targets_in c) next i) (no_right (nat_lt width (bits_of t (targets_in c) next i).end || is_across access (bits_of t (targets_in c) next i)) _ e.0) in_it;
-          end = end_is width access (low_of next i.inst.range) (width_of t (targets_in c) i) seen w.bound e.0;
-        }
+        low = low_of next i.inst.range;
+        bits = width_of t (targets_in c) i;
+        has = subst (λ (x : NamedField). HasBits address access (low_of next i.inst.range) (width_of t (targets_in c) i) x) (sym s) (has_bits width access address t c next i w);
+        clear = any_not b seen (bits_of t (targets_in c) next i) (no_right (nat_lt width (bits_of t (targets_in c) next i).end || is_across access (bits_of t (targets_in c) next i)) _ e.0) in_it;
+        end = end_is width access (low_of next i.inst.range) (width_of t (targets_in c) i) seen w.bound e.0;
+      }
       | inr r ↦ behind width access address t c b (seen ++ bits_of t (targets_in c) next i ∷ []) (bits_of t (targets_in c) next i).end is g w (has_left b seen _ in_it) e.1 r
     ]
 
@@ -141,16 +139,17 @@ unfolding IsDistinct
 apart_in width access address t c seen next [] w none = tt
 apart_in width access address t c seen next (i ∷ is) w none =
     let e : (is_misplaced width access seen (bits_of t (targets_in c) next i) ≡ false)
-        × (misplaced_in t (targets_in c) width access (seen ++ bits_of t (targets_in c) next i ∷ []) (bits_of t (targets_in c) next i).end is ≡ None) =
-        not_first (is_misplaced width access seen (bits_of t (targets_in c) next i)) i.inst.name.place _ none in
-    let own : (bits_of t (targets_in c) next i).end ≡ low_of next i.inst.range + width_of t (targets_in c) i = end_is width access (low_of next i.inst.range) (width_of t (targets_in c) i) seen w.bound e.0 in
-    (all_by (λ (h : NamedField). is_overlap (field_in address access t (targets_in c) i (bits_of t (targets_in c) next i)) h ≡ false) (fields_in address access t (targets_in c) (bits_of t (targets_in c) next i).end is) (λ h k.
-        let x : IsBehind width access address (bits_of t (targets_in c) next i) h =
-            behind width access address t c (bits_of t (targets_in c) next i) (seen ++ bits_of t (targets_in c) next i ∷ []) (bits_of t (targets_in c) next i).end is h w (has_right _ seen _ (inl refl)) e.1 k in
-        apart_by address access (low_of next i.inst.range) (width_of t (targets_in c) i) x.low x.bits _ h w.bus (has_bits width access address t c next i w) x.has
-            (subst (λ n. (nat_lt (low_of next i.inst.range) (x.low + x.bits) && nat_lt x.low n) ≡ false) own
-            (subst (λ n. (nat_lt (low_of next i.inst.range) n && nat_lt x.low (bits_of t (targets_in c) next i).end) ≡ false) x.end x.clear))),
-     apart_in width access address t c (seen ++ bits_of t (targets_in c) next i ∷ []) (bits_of t (targets_in c) next i).end is w e.1)
+    × (misplaced_in t (targets_in c) width access (seen ++ bits_of t (targets_in c) next i ∷ []) (bits_of t (targets_in c) next i).end is ≡ None) =
+    not_first (is_misplaced width access seen (bits_of t (targets_in c) next i)) i.inst.name.place _ none in
+    let own : (bits_of t (targets_in c) next i).end ≡ low_of next i.inst.range + width_of t (targets_in c) i = end_is width access (low_of next i.inst.range) (width_of t (targets_in c) i) seen w.bound e.0 in (
+      all_by (λ (h : NamedField). is_overlap (field_in address access t (targets_in c) i (bits_of t (targets_in c) next i)) h ≡ false) (fields_in address access t (targets_in c) (bits_of t (targets_in c) next i).end is) (λ h k.
+          let x : IsBehind width access address (bits_of t (targets_in c) next i) h =
+          behind width access address t c (bits_of t (targets_in c) next i) (seen ++ bits_of t (targets_in c) next i ∷ []) (bits_of t (targets_in c) next i).end is h w (has_right _ seen _ (inl refl)) e.1 k in
+          apart_by address access (low_of next i.inst.range) (width_of t (targets_in c) i) x.low x.bits _ h w.bus (has_bits width access address t c next i w) x.has
+          (subst (λ n. (nat_lt (low_of next i.inst.range) (x.low + x.bits) && nat_lt x.low n) ≡ false) own
+          (subst (λ n. (nat_lt (low_of next i.inst.range) n && nat_lt x.low (bits_of t (targets_in c) next i).end) ≡ false) x.end x.clear))),
+      apart_in width access address t c (seen ++ bits_of t (targets_in c) next i ∷ []) (bits_of t (targets_in c) next i).end is w e.1,
+    )
 
 -- ---- in two registers
 
@@ -164,7 +163,7 @@ word_of_visit top v g clear h i =
     let kind : kind_of v.component ≡ body.Reg = in_reg g (kind_of v.component) v.address v.trail v.component i in
     let r : IsRegisterAt top v = givens.register_at top v clear h kind in
     let placed : IsPlaced (regwidth_at v.trail) (accesswidth_at v.trail) v.trail v.component v.address (instances_of v.component) g =
-        placed_in (regwidth_at v.trail) (accesswidth_at v.trail) v.trail v.component v.address [] 0 (instances_of v.component) g r.first (subst (λ (k : Body). Has g (fields_by k v.address v.trail v.component)) kind i) in
+    placed_in (regwidth_at v.trail) (accesswidth_at v.trail) v.trail v.component v.address [] 0 (instances_of v.component) g r.first (subst (λ (k : Body). Has g (fields_by k v.address v.trail v.component)) kind i) in
     let given : IsGiven top g = record { visit = v; visited = h; kind = kind; register = r; field = placed } in
     let b : IsInside (regwidth_at v.trail) (accesswidth_at v.trail) (low_of placed.next placed.instance.inst.range) (width_at (trail_of top g given)) = bits_are top g clear given in
     let n : AreNumbers top g given = are_numbers top g clear given in
@@ -173,7 +172,7 @@ word_of_visit top v g clear h i =
     let by_kind : Has one (register_by f.kind v.address v.trail v.component f) = subst (λ (k : Body). Has one (register_by k v.address v.trail v.component f)) (sym (r.frame.kind ∙ kind)) (inl refl) in
     let at : Has one (at_visit layout.register_at v) = subst (λ (o : Option Frame). Has one (register_here v.address v.trail v.component o)) (sym r.frame.here) by_kind in
     let fits : v.address + accesswidth_at v.trail / 8 * (low_of placed.next placed.instance.inst.range / accesswidth_at v.trail) < 4294967296 =
-        word_below (regwidth_at v.trail) (accesswidth_at v.trail) v.address (low_of placed.next placed.instance.inst.range / accesswidth_at v.trail) r.widths b.word r.ends in
+    word_below (regwidth_at v.trail) (accesswidth_at v.trail) v.address (low_of placed.next placed.instance.inst.range / accesswidth_at v.trail) r.widths b.word r.ends in
     let many : low_of placed.next placed.instance.inst.range / accesswidth_at v.trail < words_in one = rw (words_are one (regwidth_at v.trail) (accesswidth_at v.trail) refl refl r.widths) b.word in
     subst (λ m. Has m (map orders.address_of (spots_of (at_visit layout.register_at v)))) (sym n.word)
     (has_map orders.address_of _ (spots_of (at_visit layout.register_at v)) (spots_have (at_visit layout.register_at v) one (low_of placed.next placed.instance.inst.range / accesswidth_at v.trail) at many fits))
@@ -214,11 +213,11 @@ apart_all : (top : Component) (vs : List Visit) → IsClear top → ((v : Visit)
 apart_all top [] clear all d = none_apart
 apart_all top (v ∷ vs) clear all d =
     let both : IsDistinct same_nat (map orders.address_of (spots_of (at_visit layout.register_at v)) ++ map orders.address_of (spots_of (flat_map (at_visit layout.register_at) vs))) =
-        subst (λ (xs : List ℕ). IsDistinct same_nat xs) (ap (map orders.address_of) (spots_append (at_visit layout.register_at v) (flat_map (at_visit layout.register_at) vs))
-            ∙ map-append orders.address_of (spots_of (at_visit layout.register_at v)) (spots_of (flat_map (at_visit layout.register_at) vs))) d in
+    subst (λ (xs : List ℕ). IsDistinct same_nat xs) (ap (map orders.address_of) (spots_append (at_visit layout.register_at v) (flat_map (at_visit layout.register_at) vs))
+    ∙ map-append orders.address_of (spots_of (at_visit layout.register_at v)) (spots_of (flat_map (at_visit layout.register_at) vs))) d in
     distinct_append is_overlap (at_visit fields_at v) (flat_map (at_visit fields_at) vs) (apart_at top v clear (all v (inl refl)))
-        (apart_all top vs clear (λ w i. all w (inr i)) (distinct_right same_nat (map orders.address_of (spots_of (at_visit layout.register_at v))) _ both))
-        (λ g h i j. no_overlap g h (distinct_across same_nat _ _ g.spot.word h.spot.word both (word_of_visit top v g clear (all v (inl refl)) i) (word_of_visits top vs h clear (λ w k. all w (inr k)) j)))
+    (apart_all top vs clear (λ w i. all w (inr i)) (distinct_right same_nat (map orders.address_of (spots_of (at_visit layout.register_at v))) _ both))
+    (λ g h i j. no_overlap g h (distinct_across same_nat _ _ g.spot.word h.spot.word both (word_of_visit top v g clear (all v (inl refl)) i) (word_of_visits top vs h clear (λ w k. all w (inr k)) j)))
   where
     no_overlap : (g h : NamedField) → (g.spot.word == h.spot.word) ≡ false → is_overlap g h ≡ false
     no_overlap g h e = rw e refl
@@ -226,7 +225,7 @@ apart_all top (v ∷ vs) clear all d =
 pub fields_apart : (top : Component) (words : List ℕ) (given : List NamedField) → AreParts top words given → IsPlain top → IsDistinct is_overlap given
 fields_apart top words given parts plain =
     let d : IsDistinct same_nat (map orders.address_of (spots_of (flat_map (at_visit layout.register_at) (over visit 65 0 [] top)))) =
-        subst (λ (rs : List Register). IsDistinct same_nat (map orders.address_of (spots_of rs))) (over_is layout.register_at 65 0 [] top) (distinct_spots _ plain.clash) in
+    subst (λ (rs : List Register). IsDistinct same_nat (map orders.address_of (spots_of rs))) (over_is layout.register_at 65 0 [] top) (distinct_spots _ plain.clash) in
     let f : IsDistinct is_overlap (fields_below (Some top)) = subst (λ (xs : List NamedField). IsDistinct is_overlap xs) (sym (over_is fields_at 65 0 [] top)) (apart_all top (over visit 65 0 [] top) parts.clear (λ v h. h) d) in
     IsDistinct-IsPermutation is_overlap overlap_flips (fields_below (Some top)) given parts.fields_are f
 
@@ -258,7 +257,7 @@ are_in_words top words given fields m plain up order = record {
       let h : Here top words given i f = here top words given fields m i f e in
       let r : Here top words given j g = here top words given fields m j g q in
       in_order words (distinct_words top words given m.parts plain) up h.field.spot.word r.field.spot.word f.word g.word (at_word words h.field.spot.word f.word h.is.position.word) (at_word words r.field.spot.word g.word r.is.position.word)
-          (by_word h.field.spot.word r.field.spot.word h.field.spot.lsb r.field.spot.lsb (small_lsb top words given i f h) (small_lsb top words given j g r) (key_order given order i j h.field r.field lt h.at r.at));
+      (by_word h.field.spot.word r.field.spot.word h.field.spot.lsb r.field.spot.lsb (small_lsb top words given i f h) (small_lsb top words given j g r) (key_order given order i j h.field r.field lt h.at r.at));
   apart = λ i j f g lt e q same.
       let h : Here top words given i f = here top words given fields m i f e in
       let r : Here top words given j g = here top words given fields m j g q in
@@ -269,7 +268,7 @@ are_in_words top words given fields m plain up order = record {
       let b : g.lsb ≡ r.field.spot.lsb = r.is.position.lsb in
       let c : f.width ≡ h.field.spot.width = h.is.position.width in
       let z : h.field.spot.lsb + h.field.spot.width ≤ r.field.spot.lsb =
-          not_over h.field.spot.word r.field.spot.word h.field.spot.lsb r.field.spot.lsb h.field.spot.width r.field.spot.width w le r.numbers.some out in
+      not_over h.field.spot.word r.field.spot.word h.field.spot.lsb r.field.spot.lsb h.field.spot.width r.field.spot.width w le r.numbers.some out in
       omega (arith, a, b, c, z);
 }
   where

@@ -1,46 +1,37 @@
 -- All of a field can be told where nothing is refused.
-use Rattle.std.proofs.Common.{◌≡◌, ◌⊎◌, inl, inr, ℕ, zero, suc, ◌+◌, ◌*◌, ◌^◌, ◌<◌, ◌≤◌, Bool, true, false, ◌&&◌, ◌||◌, not, nat_lt, nat_le, List, [], ◌∷◌, ◌++◌, length, map, Option, Some, None, is_some, is_none, refl, sym, ◌∙◌, ap, subst, arith, if◌then◌else◌}
+use Rattle.std.proofs.Common.{◌≡◌, inl, inr, ℕ, zero, suc, ◌*◌, ◌^◌, ◌<◌, ◌≤◌, Bool, true, false, ◌&&◌, ◌||◌, List, Option, Some, None, is_some, refl, arith, if◌then◌else◌}
 use Rattle.std.proofs.lemmas.Bool.Decides.{nat_tests}
 use Rattle.std.proofs.lemmas.Nat.{pow_pos}
 use Rattle.std.proofs.Math.Nat.{pow-succ'}
-use Rattle.rdl_text.specs.declared.instance.Body.TheVariants as body
-use Rattle.rdl_text.specs.declared.property.Property.{Property}
 use Rattle.rdl_text.specs.declared.property.Property.TheVariants as p
-use Rattle.rdl_text.specs.declared.property.Form.{Form}
-use Rattle.rdl_text.specs.declared.property.Form.TheVariants as form
 use Rattle.rdl_text.specs.Components.{Component}
-use Rattle.rdl_text.specs.Instances.{kind_of, is_field}
-use Rattle.rdl_values.specs.OneInstance.{Instance}
 use Rattle.rdl_values.specs.OneFrame.{Trail}
-use Rattle.rdl_values.specs.Values.{number_at, reset_at, in_effect, any_in_effect}
+use Rattle.rdl_values.specs.Values.{number_at, in_effect}
 use Rattle.rdl_values.specs.Accesses.{sw_at}
 use Rattle.rdl_values.specs.Fields.{width_at, has_data, is_over}
-use Rattle.rdl_effects.specs.Fields.{is_overstep, is_no_counter, has_counts, is_miscounted}
+use Rattle.rdl_effects.specs.Fields.{is_overstep, is_no_counter, is_miscounted}
 use Rattle.rdl_effects.specs.Registers.{number_or}
 use Rattle.rdl_fields.specs.declared.named.NamedExpr.{NamedExpr}
 use Rattle.rdl_fields.specs.declared.named.NamedExpr.TheVariants as named
-use Rattle.rdl_fields.specs.declared.named.NamedExtra.{NamedExtra}
 use Rattle.rdl_fields.specs.declared.named.NamedExtra.TheVariants as extra
 use Rattle.rdl_fields.specs.declared.named.NamedCounter.{NamedCounter}
 use Rattle.rdl_fields.specs.declared.named.NamedIntr.{NamedIntr}
 use Rattle.rdl_fields.specs.declared.named.NamedField.{NamedField}
-use Rattle.rdl_fields.specs.Exprs.{expr_at, asks, gate_at, gate_if}
-use Rattle.rdl_fields.specs.Parts.{acts, counts_by_itself, incr_at, counter_at, intr_at, extra_at, inputs_at}
+use Rattle.rdl_fields.specs.Exprs.{expr_at, asks}
+use Rattle.rdl_fields.specs.Parts.{acts, counts_by_itself, counter_at, intr_at, extra_at, inputs_at}
 use Rattle.rdl_fields.specs.Fields.{field_at}
 use Rattle.rdl_fields.specs.Registers.{fields_below}
 use Rattle.rdl_numbers.specs.Numbers.{numbered}
 use Rattle.rdl_map.specs.declared.signal.InputNumbers.{InputNumbers}
-use Rattle.rdl_map.specs.Signals.{count_if, number_if, numbers_from}
-use Rattle.rdl_map.specs.Given.{given_expr, given_gate, small}
+use Rattle.rdl_map.specs.Signals.{number_if, numbers_from}
+use Rattle.rdl_map.specs.Given.{given_expr, given_gate}
 use Rattle.rdl_map.specs.Extras.{is_counter_told, is_extra_told}
 use Rattle.rdl_map.specs.Fields.{are_gates_told}
-use Rattle.rdl_regmap.proofs.Has.{Has}
 use Rattle.rdl_regmap.proofs.Instances.{no_left, no_right}
-use Rattle.rdl_regmap.proofs.Forms.{fits_form, is_flagorbit_form, is_whole_form}
+use Rattle.rdl_regmap.proofs.Forms.{is_flagorbit_form, is_whole_form}
 use Rattle.rdl_regmap.proofs.References.{HasField}
 use Rattle.rdl_regmap.proofs.Told.{FindsAll, IsBelow, refers_found, whole_not_asked, expr_found, expr_told, gate_told, gate_if_told}
-use Rattle.rdl_regmap.proofs.Givens.{IsClear, IsGiven, IsField, trail_of, field_is}
-use Rattle.rdl_regmap.proofs.Words.{AreValued, are_valued, AreNumbers, are_numbers, small_told, below_word}
+use Rattle.rdl_regmap.proofs.Words.{small_told, below_word}
 
 -- each reference of a field is found
 pub record FindsEach (given : List NamedField) (t : Trail) : Type 0 where
@@ -109,13 +100,13 @@ gates_told given base register access low t f =
     let n : InputNumbers = numbers_from base (inputs_at t) in
     all_five _ _ _ _ _
     (gate_if_told given n.swwe n.swwel (sw_at t).writable t p.Swwe p.Swwel
-        (gate_told given n.swwe n.swwel t p.Swwe p.Swwel (expr_found given n.swwe t p.Swwe f.swwe (number_there (asks t p.Swwe) _)) (expr_found given n.swwel t p.Swwel f.swwel (number_there (asks t p.Swwel) _))))
+    (gate_told given n.swwe n.swwel t p.Swwe p.Swwel (expr_found given n.swwe t p.Swwe f.swwe (number_there (asks t p.Swwe) _)) (expr_found given n.swwel t p.Swwel f.swwel (number_there (asks t p.Swwel) _))))
     (gate_if_told given n.we n.wel (has_data t) t p.We p.Wel
-        (gate_told given n.we n.wel t p.We p.Wel (expr_found given n.we t p.We f.we (number_there (asks t p.We) _)) (expr_found given n.wel t p.Wel f.wel (number_there (asks t p.Wel) _))))
+    (gate_told given n.we n.wel t p.We p.Wel (expr_found given n.we t p.We f.we (number_there (asks t p.We) _)) (expr_found given n.wel t p.Wel f.wel (number_there (asks t p.Wel) _))))
     (expr_told given n.hwset (expr_at t p.Hwset) (expr_found given n.hwset t p.Hwset f.hwset (number_there (asks t p.Hwset) _)))
     (expr_told given n.hwclr (expr_at t p.Hwclr) (expr_found given n.hwclr t p.Hwclr f.hwclr (number_there (asks t p.Hwclr) _)))
     (gate_if_told given None None (acts t) t p.Hwenable p.Hwmask
-        (gate_told given None None t p.Hwenable p.Hwmask (expr_found given None t p.Hwenable f.hwenable (none_asked (asks t p.Hwenable) f.no_hwenable)) (expr_found given None t p.Hwmask f.hwmask (none_asked (asks t p.Hwmask) f.no_hwmask))))
+    (gate_told given None None t p.Hwenable p.Hwmask (expr_found given None t p.Hwenable f.hwenable (none_asked (asks t p.Hwenable) f.no_hwenable)) (expr_found given None t p.Hwmask f.hwmask (none_asked (asks t p.Hwmask) f.no_hwmask))))
 
 -- ---- what it counts
 
@@ -168,10 +159,10 @@ extra_told given base t f some le out =
     let n : InputNumbers = numbers_from base (inputs_at t) in
     extra_by given n (in_effect t p.Counter) (in_effect t p.Intr) (counter_at t) (intr_at t)
     (λ on.
-        let s : AreSteps t = are_steps t some on out in
-        all_four _ _ _ _
-        (incr_by given (counts_by_itself t) (asks t p.Incr) _ (expr_at t p.Incr) (λ e is not_alone. expr_found given _ t p.Incr f.incr (number_there (asks t p.Incr) _) e is))
-        (expr_told given n.decr (expr_at t p.Decr) (expr_found given n.decr t p.Decr f.decr (number_there (asks t p.Decr) _)))
-        (small_told (number_or 1 (number_at t p.Incrvalue)) (below_word (width_at t) (number_or 1 (number_at t p.Incrvalue)) le s.up))
-        (small_told (number_or 1 (number_at t p.Decrvalue)) (below_word (width_at t) (number_or 1 (number_at t p.Decrvalue)) le s.down)))
+    let s : AreSteps t = are_steps t some on out in
+    all_four _ _ _ _
+    (incr_by given (counts_by_itself t) (asks t p.Incr) _ (expr_at t p.Incr) (λ e is not_alone. expr_found given _ t p.Incr f.incr (number_there (asks t p.Incr) _) e is))
+    (expr_told given n.decr (expr_at t p.Decr) (expr_found given n.decr t p.Decr f.decr (number_there (asks t p.Decr) _)))
+    (small_told (number_or 1 (number_at t p.Incrvalue)) (below_word (width_at t) (number_or 1 (number_at t p.Incrvalue)) le s.up))
+    (small_told (number_or 1 (number_at t p.Decrvalue)) (below_word (width_at t) (number_or 1 (number_at t p.Decrvalue)) le s.down)))
     (gate_told given None None t p.Enable p.Mask (expr_found given None t p.Enable f.enable (none_asked (asks t p.Enable) f.no_enable)) (expr_found given None t p.Mask f.mask (none_asked (asks t p.Mask) f.no_mask)))

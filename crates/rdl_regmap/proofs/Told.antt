@@ -13,29 +13,27 @@ use Rattle.rdl_tree.specs.declared.tree.RdlValue.{RdlValue}
 use Rattle.rdl_tree.specs.declared.tree.RdlValue.TheVariants as value
 use Rattle.rdl_tree.specs.Tree.{is_text}
 use Rattle.rdl_text.specs.declared.property.Property.{Property}
-use Rattle.rdl_text.specs.declared.property.Property.TheVariants as p
 use Rattle.rdl_text.specs.declared.property.Form.{Form}
 use Rattle.rdl_text.specs.declared.property.Form.TheVariants as form
 use Rattle.rdl_text.specs.Components.{Component}
 use Rattle.rdl_text.specs.Instances.{kind_of, is_field}
-use Rattle.rdl_text.specs.References.{is_reduction, bit_reference, whole_reference, reference_in}
+use Rattle.rdl_text.specs.References.{is_reduction, reference_in}
 use Rattle.rdl_text.specs.Forms.{takes, takes_assigned}
 use Rattle.rdl_values.specs.OneFrame.{Trail}
-use Rattle.rdl_values.specs.Values.{assigned_at, depth_at, dynamic_at, is_set, is_false_given}
+use Rattle.rdl_values.specs.Values.{assigned_at, depth_at, is_set}
 use Rattle.rdl_effects.specs.Limits.{number_in}
 use Rattle.rdl_fields.specs.declared.named.NamedExpr.{NamedExpr}
 use Rattle.rdl_fields.specs.declared.named.NamedExpr.TheVariants as named
-use Rattle.rdl_fields.specs.declared.named.NamedGate.{NamedGate}
 use Rattle.rdl_fields.specs.declared.named.NamedField.{NamedField}
 use Rattle.rdl_fields.specs.Paths.{target_of}
-use Rattle.rdl_fields.specs.Exprs.{reduced, named_by, expr_of, expr_given, expr_by, expr_at, is_reference, is_reference_given, asks_by, asks, gate_of, gate_at, gate_if}
+use Rattle.rdl_fields.specs.Exprs.{reduced, named_by, expr_of, expr_given, expr_at, is_reference, asks_by, asks, gate_of, gate_at, gate_if}
 use Rattle.rdl_fields.specs.Registers.{fields_below}
-use Rattle.rdl_numbers.specs.Numbers.{has_path, number_of, numbered, numbered_gate}
+use Rattle.rdl_numbers.specs.Numbers.{has_path, number_of, numbered}
 use Rattle.rdl_map.specs.Given.{given_expr, given_gate}
 use Rattle.rdl_regmap.proofs.Has.{Has}
 use Rattle.rdl_regmap.proofs.Trails.{IsTrail}
 use Rattle.rdl_regmap.proofs.Bodies.{FineComponent}
-use Rattle.rdl_regmap.proofs.Forms.{IsRowOf, fits_form, is_flagorbit, is_flagorbit_form, is_whole, is_whole_form}
+use Rattle.rdl_regmap.proofs.Forms.{fits_form}
 use Rattle.rdl_regmap.proofs.Effective.{IsTaken, taken, IsDynamic, dynamic}
 use Rattle.rdl_regmap.proofs.References.{HasField, refers}
 
@@ -46,9 +44,9 @@ within test x [] h e = absurd h
 within test x (y ∷ ys) h e = elim (cases_Bool (test y)) [
   | inl t ↦ rw t (omega arith)
   | inr t ↦ elim h [
-      | inl s ↦ let no : false ≡ true = sym t ∙ ap test (sym s) ∙ e in cc
-      | inr r ↦ let w : position_or_len test ys < length ys = within test x ys r e in rw t (omega (arith, w))
-    ]
+    | inl s ↦ let no : false ≡ true = sym t ∙ ap test (sym s) ∙ e in cc
+    | inr r ↦ let w : position_or_len test ys < length ys = within test x ys r e in rw t (omega (arith, w))
+  ]
 ]
 
 pub is_positioned : {A : Type 0} (test : A → Bool) (x : A) (xs : List A) → Has x xs → test x ≡ true → is_some (position test xs) ≡ true

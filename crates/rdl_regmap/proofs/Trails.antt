@@ -1,5 +1,5 @@
 -- Ways from a component to those below it, and that a walk comes to each of them and to nothing else.
-use Rattle.std.proofs.Common.{◌≡◌, ◌⊎◌, inl, inr, ℕ, zero, suc, ◌+◌, ◌*◌, ◌<◌, ◌≤◌, Bool, true, false, List, [], ◌∷◌, ◌++◌, length, refl, sym, ◌∙◌, ap, subst, arith, append-nil, append_assoc, if◌then◌else◌}
+use Rattle.std.proofs.Common.{◌≡◌, ◌⊎◌, inl, inr, ℕ, zero, suc, ◌<◌, ◌≤◌, Bool, true, false, List, [], ◌∷◌, ◌++◌, length, refl, sym, ◌∙◌, ap, subst, arith, append-nil, append_assoc, if◌then◌else◌}
 use Rattle.std.specs.List.{AllByRecursion}
 use Rattle.std.proofs.lemmas.Bool.{cases_Bool, cases_eq, true≢false}
 use Rattle.rdl_tree.specs.declared.tree.RdlDef.{out-RdlDef}
@@ -69,9 +69,9 @@ by_instance see size base up targets next v [] h = absurd h
 by_instance see size base up targets next v (i ∷ is) h = elim (picked v (is_field (kind_of i.component)) (over_instances see size base up targets next is) _ h) [
   | inl e ↦ more_instances see up targets v i is (by_instance see size base up targets next v is e.1)
   | inr e ↦ elim (has_cases v (over_elements see base up targets i (extent_of size up targets next i) (count_of i)) (over_instances see size base up targets (extent_of size up targets next i).end is) e.1) [
-      | inl l ↦ record { instance = i; among = inl refl; plain = e.0; element = by_element see base up targets i (extent_of size up targets next i) v (count_of i) l }
-      | inr r ↦ more_instances see up targets v i is (by_instance see size base up targets (extent_of size up targets next i).end v is r)
-    ]
+    | inl l ↦ record { instance = i; among = inl refl; plain = e.0; element = by_element see base up targets i (extent_of size up targets next i) v (count_of i) l }
+    | inr r ↦ more_instances see up targets v i is (by_instance see size base up targets (extent_of size up targets next i).end v is r)
+  ]
 ]
 
 pub reached : (room base : ℕ) (up : Trail) (c : Component) (v : Visit) → Has v (over visit room base up c) → IsReached up c v
@@ -155,8 +155,8 @@ visited zero base up c t d (IsTrail.step _ i k s _ among lt more) none le = absu
 visited (suc room) base up c t d (IsTrail.step _ i k s _ among lt more) none le =
     let f : Frame = frame_of (targets_in c) i k in
     let v : IsVisited (up ++ (f ∷ s)) d (over_inside (over visit room) (size_in room) base up c) =
-        instance_seen (over visit room) (size_in room) base up (targets_in c) 0 (instances_of c) i k (up ++ (f ∷ s)) d among lt none.0
-        (λ b. subst (λ (x : Trail). IsVisited x d (over visit room b (up ++ f ∷ []) i.component)) (append_assoc up (f ∷ []) s) (visited room b (up ++ f ∷ []) i.component s d more none.1 (omega (arith, le)))) in
+    instance_seen (over visit room) (size_in room) base up (targets_in c) 0 (instances_of c) i k (up ++ (f ∷ s)) d among lt none.0
+    (λ b. subst (λ (x : Trail). IsVisited x d (over visit room b (up ++ f ∷ []) i.component)) (append_assoc up (f ∷ []) s) (visited room b (up ++ f ∷ []) i.component s d more none.1 (omega (arith, le)))) in
     record { at = v.at; among = inr v.among }
 
 -- ---- the walk without addresses gives what is given at each

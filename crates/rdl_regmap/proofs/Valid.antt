@@ -1,8 +1,7 @@
 -- The map of a description that fits and that nothing refuses is valid.
-use Rattle.std.proofs.Common.{◌≡◌, inl, inr, ℕ, Bool, true, false, not, List, [], Some, None, Option, refl, sym, ◌∙◌, ap, subst}
+use Rattle.std.proofs.Common.{◌≡◌, inr, true, not, [], refl, ap}
 use Rattle.rdl_tree.specs.declared.tree.RdlFile.{RdlFile}
 use Rattle.rdl_tree.specs.Tree.{fits}
-use Rattle.rdl_text.specs.Components.{Component}
 use Rattle.rdl_values.specs.Instances.{top_of}
 use Rattle.rdl_map.specs.declared.map.Parts.{Parts}
 use Rattle.rdl_map.specs.Maps.{IsMapOf}
@@ -40,4 +39,3 @@ valid file m fit fine is = elim (option_case (top_of file)) [
         small = o.small;
       }
 ]
-

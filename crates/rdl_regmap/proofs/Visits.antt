@@ -1,19 +1,17 @@
 -- The components that a walk over the instances comes to.
-use Rattle.std.proofs.Common.{◌≡◌, ◌⊎◌, inl, inr, ℕ, zero, suc, ◌+◌, ◌<◌, ◌≤◌, Bool, true, false, List, [], ◌∷◌, ◌++◌, length, refl, sym, ◌∙◌, ap, subst, arith, append-nil, append_assoc, if◌then◌else◌}
+use Rattle.std.proofs.Common.{◌≡◌, ℕ, zero, suc, Bool, true, false, List, [], ◌∷◌, ◌++◌, refl, sym, ◌∙◌, ap, append-nil, if◌then◌else◌}
 use Rattle.std.specs.List.{flat_map}
 use Rattle.std.proofs.lemmas.Grind.{flat_map-append}
 use Rattle.rdl_tree.specs.declared.tree.RdlDef.{out-RdlDef}
 use Rattle.rdl_text.specs.Components.{Component}
 use Rattle.rdl_text.specs.Instances.{kind_of, is_field}
 use Rattle.rdl_values.specs.OneInstance.{Instance}
-use Rattle.rdl_values.specs.OneFrame.{Target, Frame, Trail}
+use Rattle.rdl_values.specs.OneFrame.{Target, Trail}
 use Rattle.rdl_values.specs.Instances.{instances_of, count_of}
 use Rattle.rdl_values.specs.Frames.{targets_of, frame_of}
-use Rattle.rdl_values.specs.Walks as plain
 use Rattle.rdl_layout.specs.declared.size.Extent.{Extent}
 use Rattle.rdl_layout.specs.Laid.{Sized, size_in, extent_of}
-use Rattle.rdl_layout.specs.Walks.{Gives, address_of, over, over_elements, over_instances, over_inside}
-use Rattle.rdl_regmap.proofs.Has.{Has, has_left, has_right, has_cases}
+use Rattle.rdl_layout.specs.Walks.{Gives, address_of, over, over_elements, over_instances}
 
 pub record Visit : Type 0 where
   pub address : ℕ
@@ -50,8 +48,8 @@ instances_are give go see law size base up targets next [] = refl
 instances_are give go see law size base up targets next (i ∷ is) = branch (at_visit give) (is_field (kind_of i.component)) _ _ _ _
     (λ h. instances_are give go see law size base up targets next is)
     (λ h. ap (λ xs. xs ++ over_instances go size base up targets (extent_of size up targets next i).end is) (elements_are give go see law base up targets i (extent_of size up targets next i) (count_of i))
-        ∙ ap (λ ys. flat_map (at_visit give) (over_elements see base up targets i (extent_of size up targets next i) (count_of i)) ++ ys) (instances_are give go see law size base up targets (extent_of size up targets next i).end is)
-        ∙ sym (flat_map-append (at_visit give) (over_elements see base up targets i (extent_of size up targets next i) (count_of i)) (over_instances see size base up targets (extent_of size up targets next i).end is)))
+    ∙ ap (λ ys. flat_map (at_visit give) (over_elements see base up targets i (extent_of size up targets next i) (count_of i)) ++ ys) (instances_are give go see law size base up targets (extent_of size up targets next i).end is)
+    ∙ sym (flat_map-append (at_visit give) (over_elements see base up targets i (extent_of size up targets next i) (count_of i)) (over_instances see size base up targets (extent_of size up targets next i).end is)))
 
 pub over_is : {A : Type 0} (give : Gives A) (room : ℕ) → SeenBy give (over give room) (over visit room)
 unfolding over

@@ -1,7 +1,6 @@
 -- Each property of a map's fields is given as many bits as it asks for.
-use Rattle.std.proofs.Common.{◌≡◌, ◌⊎◌, inl, inr, ℕ, zero, suc, ◌+◌, ◌<◌, ◌≤◌, Bool, true, false, ◌&&◌, ◌||◌, ◌==◌, not, nat_lt, List, [], ◌∷◌, ◌++◌, length, length-append, take, Option, Some, None, IsTrue, slice_get, refl, sym, ◌∙◌, ap, subst, arith, if◌then◌else◌}
+use Rattle.std.proofs.Common.{◌≡◌, ℕ, zero, suc, ◌<◌, ◌≤◌, Bool, true, false, ◌||◌, ◌==◌, List, [], ◌∷◌, length, length-append, Option, Some, None, IsTrue, slice_get, refl, sym, ◌∙◌, ap, subst, arith, if◌then◌else◌}
 use Rattle.std.specs.Option.{option_map_or}
-use Rattle.std.proofs.lemmas.Bool.{cases_Bool, true≢false}
 use Rattle.std.proofs.lemmas.Bool.Decides.{nat_tests}
 use Rattle.std.proofs.lemmas.Option.{slice_get_within}
 use Rattle.std.proofs.lemmas.Slice.Eq.{bytes_eq-Decides}
@@ -10,10 +9,9 @@ use Rattle.field_policies.specs.declared.field.Field.{Field}
 use Rattle.field_policies.specs.declared.signal.HwExpr.{HwExpr}
 use Rattle.field_policies.specs.declared.signal.HwExpr.TheVariants as expr
 use Rattle.field_policies.specs.declared.signal.HwInput.{HwInput}
-use Rattle.field_policies.specs.Fields.{expr_width, has_width, EachExpr}
+use Rattle.field_policies.specs.Fields.{expr_width, has_width}
 use Rattle.field_policies.specs.Maps.{AreWide}
 use Rattle.rdl_tree.specs.declared.tree.RdlPath.{RdlPath}
-use Rattle.rdl_tree.specs.declared.tree.RdlProp.{RdlProp}
 use Rattle.rdl_tree.specs.declared.tree.RdlAssigned.{RdlAssigned}
 use Rattle.rdl_tree.specs.declared.tree.RdlSignal.{RdlSignal}
 use Rattle.rdl_tree.specs.declared.tree.RdlValue.TheVariants as value
@@ -25,15 +23,13 @@ use Rattle.rdl_text.specs.Components.{Component}
 use Rattle.rdl_text.specs.Forms.{takes_assigned}
 use Rattle.rdl_text.specs.References.{reference_in}
 use Rattle.rdl_values.specs.OneFrame.{Trail}
-use Rattle.rdl_values.specs.Values.{depth_at}
 use Rattle.rdl_values.specs.Fields.{width_at}
 use Rattle.rdl_effects.specs.References.{facts_at, is_reduced_given, has_bits}
 use Rattle.rdl_fields.specs.declared.named.NamedExpr.{NamedExpr}
 use Rattle.rdl_fields.specs.declared.named.NamedExpr.TheVariants as named
 use Rattle.rdl_fields.specs.declared.named.NamedField.{NamedField}
 use Rattle.rdl_fields.specs.Exprs.{expr_at}
-use Rattle.rdl_fields.specs.Paths.{target_of}
-use Rattle.rdl_fields.specs.Parts.{counts_by_itself, incr_at}
+use Rattle.rdl_fields.specs.Parts.{counts_by_itself}
 use Rattle.rdl_fields.specs.Registers.{fields_below}
 use Rattle.rdl_numbers.specs.Numbers.{has_path, number_of, numbered}
 use Rattle.rdl_numbers.specs.Inputs.{inputs_of}
@@ -45,14 +41,14 @@ use Rattle.rdl_regmap.proofs.Depths.{is_shallow}
 use Rattle.rdl_regmap.proofs.Forms.{fits_form, is_flagorbit_form, is_whole_form}
 use Rattle.rdl_regmap.proofs.Effective.{IsTaken, taken, IsDynamic, dynamic}
 use Rattle.rdl_regmap.proofs.Told.{bit_found, whole_found}
-use Rattle.rdl_regmap.proofs.Givens.{IsClear, trail_of}
+use Rattle.rdl_regmap.proofs.Givens.{trail_of}
 use Rattle.rdl_regmap.proofs.MapTold.{AreParts}
 use Rattle.rdl_regmap.proofs.Made.{base_at, as_many, IsMap, Here, here}
 use Rattle.rdl_regmap.proofs.Inputs.{we_own, wel_own, hwset_own, hwclr_own, swwe_own, swwel_own, incr_own, decr_own, IsThere, is_there}
-use Rattle.rdl_regmap.proofs.Exprs.{IsFound, found, Comes, AllCome, numbers_of, each_expr, mapped, no_input}
+use Rattle.rdl_regmap.proofs.Exprs.{IsFound, found, AllCome, numbers_of, each_expr, mapped}
 use Rattle.rdl_regmap.proofs.Spelled.{FitsComponent}
 use Rattle.rdl_regmap.proofs.Distinct.{one_of_path}
-use Rattle.rdl_regmap.proofs.Widths.{HasWide, IsReferred, referred_by, IsValueOf, IsReduced, Source, source}
+use Rattle.rdl_regmap.proofs.Widths.{IsReferred, referred_by, IsValueOf, IsReduced, source}
 
 -- ---- what stands at a number
 

@@ -1,22 +1,12 @@
 -- What a property is given has as many bits as the property asks for.
-use Rattle.std.proofs.Common.{◌≡◌, ◌≢◌, ◌⊎◌, inl, inr, ℕ, zero, suc, ◌+◌, ◌<◌, ◌≤◌, Bool, true, false, ◌&&◌, ◌||◌, ◌==◌, not, nat_lt, List, [], ◌∷◌, ◌++◌, length, length-append, map, take, Option, Some, None, is_some, IsTrue, slice_get, refl, sym, ◌∙◌, ap, subst, arith, append-nil, append_assoc, if◌then◌else◌, codes}
+use Rattle.std.proofs.Common.{◌≡◌, inl, inr, ℕ, ◌+◌, ◌<◌, ◌≤◌, Bool, true, false, ◌&&◌, ◌==◌, not, nat_lt, List, [], ◌∷◌, ◌++◌, length, length-append, map, take, Option, Some, None, is_some, refl, sym, ◌∙◌, ap, subst, arith, append-nil, append_assoc, if◌then◌else◌, codes}
 use Rattle.std.specs.Prelude.{⊤}
-use Rattle.std.specs.List.{flat_map}
-use Rattle.std.specs.Option.{option_map, option_map_or, option_and_then}
+use Rattle.std.specs.Option.{option_map, option_and_then}
 use Rattle.std.proofs.lemmas.Bool.{cases_Bool, true≢false}
 use Rattle.std.proofs.lemmas.Bool.Decides.{nat_tests}
-use Rattle.std.proofs.lemmas.Slice.Eq.{bytes_eq-Decides}
 use Rattle.std.proofs.lemmas.List.{map-append}
-use Rattle.bit_base.specs.declared.place.Place.{Place}
-use Rattle.field_policies.specs.declared.field.Field.{Field}
-use Rattle.field_policies.specs.declared.signal.HwExpr.{HwExpr}
-use Rattle.field_policies.specs.declared.signal.HwExpr.TheVariants as expr
-use Rattle.field_policies.specs.declared.signal.HwInput.{HwInput}
-use Rattle.field_policies.specs.Fields.{expr_width, has_width, EachExpr}
 use Rattle.field_policies.specs.FieldPath.{Step, path_text}
-use Rattle.field_policies.specs.Maps.{EachField}
 use Rattle.rdl_tree.specs.declared.token.RdlToken.{RdlToken}
-use Rattle.rdl_tree.specs.declared.tree.RdlDef.{out-RdlDef}
 use Rattle.rdl_tree.specs.declared.tree.RdlIndex.{RdlIndex}
 use Rattle.rdl_tree.specs.declared.tree.RdlRange.{RdlRange}
 use Rattle.rdl_tree.specs.declared.tree.RdlStep.{RdlStep}
@@ -30,48 +20,39 @@ use Rattle.rdl_tree.specs.declared.tree.RdlValue.TheVariants as value
 use Rattle.rdl_tree.specs.Tree.{is_text}
 use Rattle.rdl_text.specs.declared.instance.Body.{Body}
 use Rattle.rdl_text.specs.declared.property.Property.{Property}
-use Rattle.rdl_text.specs.declared.property.Property.TheVariants as p
 use Rattle.rdl_text.specs.declared.property.Form.{Form}
-use Rattle.rdl_text.specs.declared.property.Form.TheVariants as form
 use Rattle.rdl_text.specs.declared.property.Row.{Row}
-use Rattle.rdl_text.specs.Lists.{or_else}
 use Rattle.rdl_text.specs.Components.{Component}
 use Rattle.rdl_text.specs.Instances.{kind_of, is_field}
-use Rattle.rdl_text.specs.Names.{place_if}
 use Rattle.rdl_text.specs.Properties.{row_of}
 use Rattle.rdl_text.specs.References.{reference_in}
-use Rattle.rdl_text.specs.Forms.{takes_assigned}
 use Rattle.rdl_values.specs.OneInstance.{Instance}
-use Rattle.rdl_values.specs.OneFrame.{Target, Frame, Trail}
+use Rattle.rdl_values.specs.OneFrame.{Target, Trail}
 use Rattle.rdl_values.specs.Frames.{frame_of}
 use Rattle.rdl_values.specs.Instances.{instances_of, elements_in, count_of}
 use Rattle.rdl_values.specs.Values.{assigned_at, depth_at, is_set, is_array, is_index, names, fits_step, fit_steps, leads_along}
 use Rattle.rdl_values.specs.Fields.{width_at, starts_known}
-use Rattle.rdl_effects.specs.declared.effect.Effect.TheVariants as effect
-use Rattle.rdl_effects.specs.declared.reference.Facts.{Facts}
-use Rattle.rdl_effects.specs.Bodies.{misreferred, refused_here, refused_in, refused_at}
-use Rattle.rdl_effects.specs.References.{index_in, is_element, instance_in, instance_by, frame_by, steps_on, steps_from, path_from, facts_at, facts_by, is_reduced_given, has_bits, is_misfit, is_misreferred_to, is_misreferred_by, is_misreferred}
+use Rattle.rdl_effects.specs.Bodies.{misreferred}
+use Rattle.rdl_effects.specs.References.{index_in, is_element, instance_in, instance_by, frame_by, steps_on, path_from, facts_at, facts_by, has_bits, is_misfit, is_misreferred_to, is_misreferred_by, is_misreferred}
 use Rattle.rdl_effects.specs.Registers.{accesswidth_at}
 use Rattle.rdl_layout.specs.Bits.{bits_of}
 use Rattle.rdl_layout.specs.Walks.{over}
 use Rattle.rdl_fields.specs.declared.named.NamedExpr.{NamedExpr}
 use Rattle.rdl_fields.specs.declared.named.NamedExpr.TheVariants as named
 use Rattle.rdl_fields.specs.declared.named.NamedField.{NamedField}
-use Rattle.rdl_fields.specs.Exprs.{reduced, named_by, expr_of, expr_given, expr_by, expr_at}
+use Rattle.rdl_fields.specs.Exprs.{reduced, expr_of, expr_given, expr_at}
 use Rattle.rdl_fields.specs.Paths.{step_of, named_steps, path_at, target_of}
 use Rattle.rdl_fields.specs.Registers.{field_in, fields_in, fields_by, fields_at, fields_below}
-use Rattle.rdl_numbers.specs.Numbers.{has_path, number_of, numbered}
-use Rattle.rdl_regmap.proofs.Has.{OptionCase, option_case, Has, has_left, has_right, has_flat, has_permuted, none_left, none_right}
-use Rattle.rdl_regmap.proofs.Visits.{Visit, visit, at_visit, over_is}
+use Rattle.rdl_regmap.proofs.Has.{Has, has_flat, none_left, none_right}
+use Rattle.rdl_regmap.proofs.Visits.{visit, at_visit, over_is}
 use Rattle.rdl_regmap.proofs.Trails.{IsTrail, targets_in, IsVisited, visited}
 use Rattle.rdl_regmap.proofs.Depths.{is_shallow}
 use Rattle.rdl_regmap.proofs.Bodies.{FineComponent}
-use Rattle.rdl_regmap.proofs.Instances.{no_place, no_left, no_right, yes_left, yes_right, held_by_no, no_by_not, same_bytes, instance_is, Along, steps_in, IsLed, led, along, joined, EndsInRegister, ends_in_register}
+use Rattle.rdl_regmap.proofs.Instances.{no_place, no_right, yes_left, yes_right, held_by_no, no_by_not, same_bytes, instance_is, Along, steps_in, IsLed, led, along, joined, EndsInRegister, ends_in_register}
 use Rattle.rdl_regmap.proofs.Names.{one_of_name}
-use Rattle.rdl_regmap.proofs.Effective.{IsTargeted, IsTaken, taken, IsDynamic, dynamic}
+use Rattle.rdl_regmap.proofs.Effective.{IsDynamic}
 use Rattle.rdl_regmap.proofs.References.{LeadsToField, leads_to_field}
-use Rattle.rdl_regmap.proofs.Givens.{IsClear, trail_of, unrefused}
-use Rattle.rdl_regmap.proofs.Exprs.{IsFound, found}
+use Rattle.rdl_regmap.proofs.Givens.{IsClear, unrefused}
 
 -- ---- the instance that a step names
 
@@ -162,11 +143,11 @@ wide_in : (register access : ℕ) (t : Trail) (targets : List Target) (next : �
 wide_in register access t targets next [] i h = absurd h
 wide_in register access t targets next (j ∷ is) i h = elim h [
   | inl e ↦ record {
-      field = field_in register access t targets j (bits_of t targets next j);
-      among = inl refl;
-      named = ap (λ (x : Instance). path_at (t ++ frame_of targets x 0 ∷ [])) (sym e);
-      width = ap (λ (x : Instance). width_at (t ++ frame_of targets x 0 ∷ [])) (sym e);
-    }
+    field = field_in register access t targets j (bits_of t targets next j);
+    among = inl refl;
+    named = ap (λ (x : Instance). path_at (t ++ frame_of targets x 0 ∷ [])) (sym e);
+    width = ap (λ (x : Instance). width_at (t ++ frame_of targets x 0 ∷ [])) (sym e);
+  }
   | inr r ↦ let f : HasWide (t ++ frame_of targets i 0 ∷ []) (fields_in register access t targets (bits_of t targets next j).end is) = wide_in register access t targets (bits_of t targets next j).end is i r in
       record { field = f.field; among = inr f.among; named = f.named; width = f.width }
 ]
@@ -177,7 +158,7 @@ has_wide top t d clear way field =
     let short : length e.before ≤ 64 = is_shallow top e.before e.register clear.few e.trail e.fieldless in
     let v : IsVisited e.before e.register (over visit 65 0 [] top) = visited 65 0 [] top e.before e.register e.trail e.fieldless (omega (arith, short)) in
     let f : HasWide (e.before ++ frame_of (targets_in e.register) e.instance 0 ∷ []) (fields_in v.at (accesswidth_at e.before) e.before (targets_in e.register) 0 (instances_of e.register)) =
-        wide_in v.at (accesswidth_at e.before) e.before (targets_in e.register) 0 (instances_of e.register) e.instance e.among in
+    wide_in v.at (accesswidth_at e.before) e.before (targets_in e.register) 0 (instances_of e.register) e.instance e.among in
     let g : Has f.field (fields_at v.at e.before e.register) = subst (λ (k : Body). Has f.field (fields_by k v.at e.before e.register)) (sym e.kind) f.among in
     record {
       field = f.field;
@@ -217,12 +198,12 @@ referred_by top t d q x row path clear short way y named ref =
     let none : misreferred y.around y.body (targets_in y.body) ≡ [] = none_right _ _ (unrefused top y.around y.body clear y.way (omega (arith, size, short))) in
     let out : is_misreferred y.around y.body y.targeted.target.path y.targeted.target.prop ≡ false = none_misreferred y.around y.body (targets_in y.body) y.targeted.target none y.targeted.among in
     let a : is_misreferred_to y.around y.body y.targeted.target.path row.form y.targeted.target.prop.value (reference_in row.form y.targeted.target.prop.value) ≡ false =
-        subst (λ (o : Option Row). is_misreferred_by y.around y.body y.targeted.target.path y.targeted.target.prop.value o ≡ false) row_is out in
+    subst (λ (o : Option Row). is_misreferred_by y.around y.body y.targeted.target.path y.targeted.target.prop.value o ≡ false) row_is out in
     let b : is_misfit row.form y.targeted.target.prop.value (facts_by y.around y.body y.targeted.target.path) (facts_by y.around y.body path) ≡ false =
-        subst (λ (o : Option RdlPath). is_misreferred_to y.around y.body y.targeted.target.path row.form y.targeted.target.prop.value o ≡ false) ref_is a in
+    subst (λ (o : Option RdlPath). is_misreferred_to y.around y.body y.targeted.target.path row.form y.targeted.target.prop.value o ≡ false) ref_is a in
     let c : is_misfit row.form y.targeted.target.prop.value (Some (facts_at (y.around ++ y.rest))) (Some (facts_at (y.around ++ s.trail))) ≡ false =
-        subst (λ (o : Option Trail). is_misfit row.form y.targeted.target.prop.value (option_map facts_at o) (Some (facts_at (y.around ++ s.trail))) ≡ false) own
-        (subst (λ (o : Option Trail). is_misfit row.form y.targeted.target.prop.value (facts_by y.around y.body y.targeted.target.path) (option_map facts_at o) ≡ false) to b) in
+    subst (λ (o : Option Trail). is_misfit row.form y.targeted.target.prop.value (option_map facts_at o) (Some (facts_at (y.around ++ s.trail))) ≡ false) own
+    (subst (λ (o : Option Trail). is_misfit row.form y.targeted.target.prop.value (facts_by y.around y.body y.targeted.target.path) (option_map facts_at o) ≡ false) to b) in
     let e : has_bits row.form y.targeted.target.prop.value (facts_at (y.around ++ y.rest)) (facts_at (y.around ++ s.trail)) ≡ true = held_by_no _ (no_right (not (starts_known (y.around ++ s.trail))) _ c) in
     record {
       trail = y.around ++ s.trail;

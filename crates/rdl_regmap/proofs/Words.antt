@@ -1,6 +1,5 @@
 -- The bus word of each field is one of the map's, and what of a field can be told.
-use Rattle.std.proofs.Common.{◌≡◌, ◌⊎◌, inl, inr, ℕ, zero, suc, ◌+◌, ◌-◌, ◌*◌, ◌/◌, ◌%◌, ◌^◌, ◌<◌, ◌≤◌, Bool, true, false, ◌&&◌, ◌||◌, not, ◌==◌, min, nat_lt, nat_le, List, [], ◌∷◌, ◌++◌, length, map, Option, Some, None, is_some, refl, sym, ◌∙◌, ap, subst, arith, if◌then◌else◌}
-use Rattle.std.specs.List.{position, flat_map}
+use Rattle.std.proofs.Common.{◌≡◌, inl, inr, ℕ, zero, suc, ◌+◌, ◌*◌, ◌/◌, ◌%◌, ◌^◌, ◌<◌, ◌≤◌, Bool, true, false, ◌&&◌, ◌||◌, nat_lt, List, [], ◌∷◌, map, Option, Some, None, is_some, refl, sym, ◌∙◌, ap, subst, arith}
 use Rattle.std.specs.List.Sorted.{IsPermutation}
 use Rattle.std.proofs.lemmas.Bool.Decides.{nat_tests}
 use Rattle.std.proofs.lemmas.List.Sorted.{IsPermutation-sym}
@@ -9,32 +8,27 @@ use Rattle.rdl_text.specs.declared.instance.Body.{Body}
 use Rattle.rdl_text.specs.declared.instance.Body.TheVariants as body
 use Rattle.rdl_text.specs.Components.{Component}
 use Rattle.rdl_text.specs.Instances.{kind_of}
-use Rattle.rdl_values.specs.OneInstance.{Instance}
 use Rattle.rdl_values.specs.OneFrame.{Frame, Trail}
-use Rattle.rdl_values.specs.Values.{here_of, reset_at}
+use Rattle.rdl_values.specs.Values.{reset_at}
 use Rattle.rdl_values.specs.Fields.{width_at, is_wire, is_over}
 use Rattle.rdl_effects.specs.Fields.{is_miswide, is_misreset, is_mispulsed, is_miscounted, is_misraised}
-use Rattle.rdl_effects.specs.Registers.{number_or, regwidth_at, accesswidth_at}
+use Rattle.rdl_effects.specs.Registers.{regwidth_at, accesswidth_at}
 use Rattle.rdl_layout.specs.declared.register.Register.{Register}
-use Rattle.rdl_layout.specs.Bits.{bits_at, bits_of, low_of}
+use Rattle.rdl_layout.specs.Bits.{bits_at, low_of}
 use Rattle.rdl_layout.specs.Registers.{register_by, register_here, register_at, registers_below}
 use Rattle.rdl_layout.specs.Walks.{over}
-use Rattle.rdl_words.specs.Spots.{Spot}
 use Rattle.rdl_words.specs.Words.{address_in, spot_in, spots_below, words_in, spots_of}
 use Rattle.rdl_numbers.specs.Orders as orders
 use Rattle.rdl_fields.specs.declared.named.NamedField.{NamedField}
-use Rattle.rdl_fields.specs.Fields.{word_of, bit_of}
-use Rattle.rdl_fields.specs.Registers.{field_in}
 use Rattle.rdl_fields.specs.Parts.{reset_if}
 use Rattle.rdl_map.specs.Given.{is_at, word_number, small}
 use Rattle.rdl_map.specs.Fields.{is_position_told}
-use Rattle.rdl_regmap.proofs.Has.{Has, has_left, has_right, has_cases, has_flat, has_permuted}
+use Rattle.rdl_regmap.proofs.Has.{Has, has_left, has_right, has_flat, has_permuted}
 use Rattle.rdl_regmap.proofs.Visits.{Visit, visit, at_visit, over_is}
 use Rattle.rdl_regmap.proofs.Instances.{no_left, no_right}
 use Rattle.rdl_regmap.proofs.Told.{is_positioned}
 use Rattle.rdl_regmap.proofs.Placed.{IsAccess, AreWidths, IsInside, word_below, word_is, bit_is}
-use Rattle.rdl_regmap.proofs.Givens as givens
-use Rattle.rdl_regmap.proofs.Givens.{IsClear, IsRegisterAt, IsGiven, IsField, trail_of, field_is, bits_are, EndsAt}
+use Rattle.rdl_regmap.proofs.Givens.{IsClear, IsRegisterAt, IsGiven, IsField, trail_of, field_is, bits_are}
 
 -- ---- spots
 
@@ -98,7 +92,7 @@ word_there top v words k h at kind moved lt =
     let fits : v.address + accesswidth_at v.trail / 8 * k < 4294967296 = word_below (regwidth_at v.trail) (accesswidth_at v.trail) v.address k at.widths lt at.ends in
     let many : k < words_in r.register = rw (words_are r.register (regwidth_at v.trail) (accesswidth_at v.trail) r.width r.access at.widths) lt in
     let spot : Has (record { address = address_in r.register k; place = r.register.place }) (spots_of (registers_below (Some top))) =
-        spots_have (registers_below (Some top)) r.register k r.among many (subst (λ n. n < 4294967296) (sym same) fits) in
+    spots_have (registers_below (Some top)) r.register k r.among many (subst (λ n. n < 4294967296) (sym same) fits) in
     let listed : Has (address_in r.register k) (map orders.address_of (spots_of (registers_below (Some top)))) = has_map orders.address_of _ (spots_of (registers_below (Some top))) spot in
     subst (λ n. Has n words) same (has_permuted words (map orders.address_of (spots_of (registers_below (Some top)))) (IsPermutation-sym (map orders.address_of (spots_of (registers_below (Some top)))) words moved) (address_in r.register k) listed)
 
@@ -163,9 +157,9 @@ are_numbers top g clear i =
     let low : ℕ = low_of i.field.next i.field.instance.inst.range in
     let width : g.spot.width ≡ width_at (trail_of top g i) = ap (λ (x : NamedField). x.spot.width) i.field.is in
     let lsb : g.spot.lsb ≡ low_of i.field.next i.field.instance.inst.range % accesswidth_at i.visit.trail =
-        ap (λ (x : NamedField). x.spot.lsb) i.field.is ∙ bit_is (regwidth_at i.visit.trail) (accesswidth_at i.visit.trail) (low_of i.field.next i.field.instance.inst.range) w in
+    ap (λ (x : NamedField). x.spot.lsb) i.field.is ∙ bit_is (regwidth_at i.visit.trail) (accesswidth_at i.visit.trail) (low_of i.field.next i.field.instance.inst.range) w in
     let one : low_of i.field.next i.field.instance.inst.range % accesswidth_at i.visit.trail + width_at (trail_of top g i) ≤ accesswidth_at i.visit.trail =
-        subst (λ n. n + width_at (trail_of top g i) ≤ accesswidth_at i.visit.trail) (bit_is (regwidth_at i.visit.trail) (accesswidth_at i.visit.trail) (low_of i.field.next i.field.instance.inst.range) w) b.one_word in
+    subst (λ n. n + width_at (trail_of top g i) ≤ accesswidth_at i.visit.trail) (bit_is (regwidth_at i.visit.trail) (accesswidth_at i.visit.trail) (low_of i.field.next i.field.instance.inst.range) w) b.one_word in
     let v : AreValued (trail_of top g i) = are_valued (trail_of top g i) f.valued in
     let reset : g.start.reset ≡ reset_if (is_wire (trail_of top g i)) (trail_of top g i) = ap (λ (x : NamedField). x.start.reset) i.field.is in
     record {
