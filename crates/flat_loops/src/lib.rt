@@ -1,0 +1,5 @@
+//! Which items of a flat design feed on which, and an order of them or a loop.
+#![tactic(auto)]
+
+pub mod graph;
+pub mod sort;
