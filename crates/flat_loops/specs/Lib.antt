@@ -1,3 +1,4 @@
 pub mod Graphs
 pub mod Steps
 pub mod Sortings
+pub mod Feeding
