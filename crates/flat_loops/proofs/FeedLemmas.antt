@@ -1,6 +1,6 @@
 -- Tables of drivers, and what they pass on.
-use Rattle.std.proofs.Common.{◌≡◌, ◌⊎◌, inl, inr, ℕ, zero, suc, ◌+◌, ◌<◌, ◌≤◌, Bool, true, false, List, [], ◌∷◌, ◌++◌, take, length, get_or, Some, slice_get, refl, sym, ◌∙◌, ap, subst, arith, add-one}
-use Rattle.std.specs.Prelude.{◌==◌, Option, None, if◌then◌else◌, slice_index_or}
+use Rattle.std.proofs.Common.{◌≡◌, ◌⊎◌, inl, inr, ℕ, zero, suc, ◌+◌, ◌<◌, ◌≤◌, true, false, List, [], ◌∷◌, ◌++◌, take, length, get_or, Some, slice_get, refl, sym, ◌∙◌, ap, subst, arith, add-one}
+use Rattle.std.specs.Prelude.{◌==◌, Option, if◌then◌else◌, slice_index_or}
 use Rattle.std.proofs.Math.Seq.{take-suc}
 use Rattle.std.proofs.lemmas.Bool.{cases_Bool}
 use Rattle.std.proofs.lemmas.Bool.Decides.{nat_tests}
@@ -9,7 +9,6 @@ use Rattle.flat_design.specs.declared.item.FlatItem.{FlatItem}
 use Rattle.flat_design.specs.Systems.{IsUnclocked, is_clocked, item_flow}
 use Rattle.flat_orders.specs.Orders.{among, HaveSingleDrivers}
 use Rattle.flat_orders.specs.Cycles.{Feeds}
-use Rattle.flat_flows.specs.Tables.{in_table}
 use Rattle.flat_loops.specs.Graphs.{Graph, leads, row_of}
 use Rattle.flat_loops.specs.Feeding.{driver_at, IsDriver, AreDrivers, IsPassed, ArePassed, IsRowOf, AreFeeds, AreUnclocked}
 use Rattle.flat_loops.proofs.SortLemmas.{still_there, last_there, there_or_last}
@@ -34,25 +33,25 @@ drivers_more nets items k x table table' members single are there free driven no
 
   found : (i m : ℕ) → driver_at table' i ≡ Some m → IsDriver nets items m i
   found i m e = elim (cases_Bool (among i members)) [
-      | inl on ↦ subst (λ n. IsDriver nets items n i) (one_item (driver_at table' i) k m (here i on) e) (record { item = x; is = (there, free); drives = sym (driven i) ∙ on })
-      | inr off ↦ are.found i m (sym (not_here i off) ∙ e)
-    ]
+    | inl on ↦ subst (λ n. IsDriver nets items n i) (one_item (driver_at table' i) k m (here i on) e) (record { item = x; is = (there, free); drives = sym (driven i) ∙ on })
+    | inr off ↦ are.found i m (sym (not_here i off) ∙ e)
+  ]
 
   by_number : (i m : ℕ) → (m ≡ k) ⊎ (m < k) → IsDriver nets items m i → driver_at table' i ≡ Some m
   by_number i m (inl e) d =
       let same : d.item ≡ x = one_item (slice_get items k) d.item x (sym (ap (slice_get items) e) ∙ d.is.0) there in
       here i (driven i ∙ ap (λ y. (item_flow nets y).drives i) (sym same) ∙ d.drives) ∙ ap Some (sym e)
   by_number i m (inr less) d = elim (cases_Bool (among i members)) [
-      | inl on ↦ (let e : k ≡ m = single.single k m x d.item i there d.is.0 (sym (driven i) ∙ on) d.drives in absurd (omega arith))
-      | inr off ↦ not_here i off ∙ are.all i m less d
-    ]
+    | inl on ↦ (let e : k ≡ m = single.single k m x d.item i there d.is.0 (sym (driven i) ∙ on) d.drives in absurd (omega arith))
+    | inr off ↦ not_here i off ∙ are.all i m less d
+  ]
 
   all : (i m : ℕ) → m < k + 1 → IsDriver nets items m i → driver_at table' i ≡ Some m
-  all i m h d = by_number i m (elim (cases_Bool (m == k)) [ | inl on ↦ inl (grind (arith, nat_tests)) | inr off ↦ inr (grind (arith, nat_tests)) ]) d
+  all i m h d = by_number i m (elim (cases_Bool (m == k)) [ inl on ↦ inl (grind (arith, nat_tests)) | inr off ↦ inr (grind (arith, nat_tests)) ]) d
 
 -- an item more, which a clock starts
 pub drivers_same : (nets : List Net) (items : List FlatItem) (k : ℕ) (x : FlatItem) (table : List (Option ℕ)) → AreDrivers nets items k table → slice_get items k ≡ Some x → is_clocked x ≡ true → AreDrivers nets items (k + 1) table
-drivers_same nets items k x table are there clocked = record { found = are.found; all = λ i m h d. by_number i m (elim (cases_Bool (m == k)) [ | inl on ↦ inl (grind (arith, nat_tests)) | inr off ↦ inr (grind (arith, nat_tests)) ]) d } where
+drivers_same nets items k x table are there clocked = record { found = are.found; all = λ i m h d. by_number i m (elim (cases_Bool (m == k)) [ inl on ↦ inl (grind (arith, nat_tests)) | inr off ↦ inr (grind (arith, nat_tests)) ]) d } where
   by_number : (i m : ℕ) → (m ≡ k) ⊎ (m < k) → IsDriver nets items m i → driver_at table i ≡ Some m
   by_number i m (inl e) d =
       let same : d.item ≡ x = one_item (slice_get items k) d.item x (sym (ap (slice_get items) e) ∙ d.is.0) there in
@@ -109,7 +108,7 @@ row_past [] row (suc m) h = refl
 row_past (r ∷ graph) row zero h = absurd (omega arith)
 row_past (r ∷ graph) row (suc m) h = row_past graph row m (omega arith)
 
-inside : {A : Type 0} (xs : List A) (k : ℕ) (x : A) → slice_get xs k ≡ Some x → k < length xs
+pub inside : {A : Type 0} (xs : List A) (k : ℕ) (x : A) → slice_get xs k ≡ Some x → k < length xs
 inside [] k x at = absurd (cc at)
 inside (y ∷ xs) zero x at = omega arith
 inside (y ∷ xs) (suc k) x at = let h = inside xs k x at in omega arith
@@ -147,7 +146,7 @@ graph_more nets items k x table graph graph' row are long there drivers is grown
   all m j (inr (inl e)) low f =
       let same : f.reader ≡ x = one_item (slice_get items k) f.reader x (sym (ap (slice_get items) e) ∙ f.is_reader.0) there in
       ap (among j) (at_last m e) ∙ is.all f.bit j (sym (ap is_clocked same) ∙ f.is_reader.1) (sym (ap (λ y. (item_flow nets y).reads f.bit) same) ∙ f.reads)
-        (drivers.all f.bit j (inside items j f.driver f.is_driver.0) (record { item = f.driver; is = f.is_driver; drives = f.drives }))
+      (drivers.all f.bit j (inside items j f.driver f.is_driver.0) (record { item = f.driver; is = f.is_driver; drives = f.drives }))
   all m j (inr (inr h)) low f = absurd (omega arith)
 
 -- ---- the items without a clock

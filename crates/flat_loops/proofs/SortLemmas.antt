@@ -1,5 +1,5 @@
 -- The steps of a search keep what it has sorted.
-use Rattle.std.proofs.Common.{◌≡◌, ◌⊎◌, inl, inr, ℕ, zero, suc, ◌+◌, ◌-◌, ◌*◌, ◌<◌, ◌≤◌, Bool, true, false, not, ◌||◌, ◌&&◌, List, [], ◌∷◌, ◌++◌, Some, slice_get, slice_set, length, drop, take, refl, sym, ◌∙◌, ap, subst, arith, add-one}
+use Rattle.std.proofs.Common.{◌≡◌, ◌⊎◌, inl, inr, ℕ, zero, suc, ◌+◌, ◌<◌, ◌≤◌, Bool, true, false, ◌||◌, List, [], ◌∷◌, ◌++◌, Some, slice_get, slice_set, length, drop, take, refl, sym, ◌∙◌, ap, subst, arith, add-one}
 use Rattle.std.specs.Prelude.{◌==◌, Option, None, MatchOption, slice_index_or}
 use Rattle.std.proofs.Math.Seq.{take-suc}
 use Rattle.std.proofs.lemmas.Bool.{cases_Bool}
@@ -23,7 +23,7 @@ none_right false = refl
 pub among_last : (i : ℕ) (ks : List ℕ) (n : ℕ) → among i (ks ++ n ∷ []) ≡ (among i ks || n == i)
 among_last i ks n = list_any-append (λ j. j == i) ks (n ∷ []) ∙ ap (λ b. among i ks || b) (none_right (n == i))
 
-itself : (k : ℕ) → (k == k) ≡ true
+pub itself : (k : ℕ) → (k == k) ≡ true
 itself k = grind (arith, nat_tests)
 
 either_of : (a b : Bool) → a || b ≡ true → (a ≡ true) ⊎ (b ≡ true)
@@ -242,9 +242,9 @@ step_on graph seen seen' done order front path path' node next is grown marked s
 
   open_ : (i : ℕ) → in_table seen' i ≡ true → in_table done i ≡ false → among i path' ≡ true
   open_ i s d = elim (cases_Bool (next == i)) [
-      | inl on ↦ (let e : next ≡ i = grind (arith, nat_tests) in ap (among i) grown ∙ subst (λ k. among k (path ++ next ∷ []) ≡ true) e (last_there path next))
-      | inr out ↦ ap (among i) grown ∙ still_there i path next (search.open_ i (sym (in_set_other seen next i (λ e. absurd (cc (sym out ∙ ap (λ k. next == k) (sym e) ∙ itself next)))) ∙ sym (ap (λ t. in_table t i) marked) ∙ s) d)
-    ]
+    | inl on ↦ (let e : next ≡ i = grind (arith, nat_tests) in ap (among i) grown ∙ subst (λ k. among k (path ++ next ∷ []) ≡ true) e (last_there path next))
+    | inr out ↦ ap (among i) grown ∙ still_there i path next (search.open_ i (sym (in_set_other seen next i (λ e. absurd (cc (sym out ∙ ap (λ k. next == k) (sym e) ∙ itself next)))) ∙ sym (ap (λ t. in_table t i) marked) ∙ s) d)
+  ]
 
   stays : (i : ℕ) → (among i order ≡ true) ⊎ (among i path ≡ true) → among i order || among i path' ≡ true
   stays i (inl a) = left_on (among i order) _ a

@@ -1,5 +1,5 @@
 -- Which items feed on which, by a table of drivers.
-use Rattle.std.specs.Prelude.{◌≡◌, ◌<◌, ◌≤◌, ℕ, Bool, true, false, List, [], Option, Some, None, slice_get, slice_index_or, length}
+use Rattle.std.specs.Prelude.{◌≡◌, ◌<◌, ℕ, true, false, List, Option, Some, None, slice_index_or, length}
 use Rattle.flat_design.specs.declared.net.Net.{Net}
 use Rattle.flat_design.specs.declared.item.FlatItem.{FlatItem}
 use Rattle.flat_design.specs.Systems.{IsUnclocked, is_clocked, item_flow}

@@ -1,5 +1,5 @@
 -- Graphs by the numbers of their nodes, sorted, and loops in them.
-use Rattle.std.specs.Prelude.{◌≡◌, ◌<◌, ℕ, ◌+◌, Bool, true, false, List, [], ◌∷◌, Some, slice_get, slice_index_or}
+use Rattle.std.specs.Prelude.{◌≡◌, ◌<◌, ℕ, Bool, true, false, List, [], ◌∷◌, Some, slice_get, slice_index_or}
 use Rattle.flat_orders.specs.Orders.{among}
 use Rattle.flat_flows.specs.Tables.{in_table}
 

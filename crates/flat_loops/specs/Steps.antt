@@ -2,7 +2,6 @@
 use Rattle.std.specs.Prelude.{◌≡◌, ℕ, ◌+◌, ◌-◌, ◌*◌, ◌<◌, ◌||◌, ◌++◌, ◌∷◌, List, [], Bool, Some, true, length, drop, slice_get}
 use Rattle.bit_base.specs.Operators.{count_of_true}
 use Rattle.flat_orders.specs.Orders.{among}
-use Rattle.flat_flows.specs.Tables.{in_table}
 use Rattle.flat_loops.specs.Graphs.{Graph, leads, IsChain, IsSearch, IsClosed, AllIn}
 
 -- the part of a list from a place on at which a number stands

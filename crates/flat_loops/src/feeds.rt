@@ -17,9 +17,24 @@ pub fn is_clocked(item: &FlatItem) -> bool
     ensures { result ≡ is_clocked item.now }
 {
     match item {
-        FlatItem::Assign { place: _, targets: _, left: _, value: _, connection: _ } => false,
-        FlatItem::Comb { place: _, targets: _, body: _ } => false,
-        FlatItem::Clocked { place: _, targets: _, events: _, body: _ } => true,
+        FlatItem::Assign {
+            place: _,
+            targets: _,
+            left: _,
+            value: _,
+            connection: _,
+        } => false,
+        FlatItem::Comb {
+            place: _,
+            targets: _,
+            body: _,
+        } => false,
+        FlatItem::Clocked {
+            place: _,
+            targets: _,
+            events: _,
+            body: _,
+        } => true,
     }
 }
 

@@ -3,4 +3,5 @@
 
 pub mod feeds;
 pub mod graph;
+pub mod order;
 pub mod sort;

@@ -11,6 +11,6 @@ loop-k-preserved c =
           (let there = entry c.args.items.now c.loop-k.k w.index-items-k-then-not-is_clocked.result c.loop-k-test.true w.index-items-k-then-not-is_clocked.is in
           let same = one_item (slice_get c.args.items.now c.loop-k.k) w.index-items-k-then-not-is_clocked.result c.index-items-k.result there (entry c.args.items.now c.loop-k.k c.index-items-k.result c.loop-k-test.true c.index-items-k.is) in
           rw w.table-is (drivers_more c.args.nets.now c.args.items.now c.loop-k.k w.index-items-k-then-not-is_clocked.result c.loop-k.table.items w.note_all.new.table.items w.members.result.now c.requires.single c.loop-k.invariant there
-            (ap is_clocked same ∙ sym c.is_clocked.ensures ∙ w.if-not-is_clocked.true) (λ i. w.members.ensures i ∙ w.in_ok-fill.ensures.drives i) w.in_ok-note_all.ensures))
+          (ap is_clocked same ∙ sym c.is_clocked.ensures ∙ w.if-not-is_clocked.true) (λ i. w.members.ensures i ∙ w.in_ok-fill.ensures.drives i) w.in_ok-note_all.ensures))
       | else-not-is_clocked w ↦ rw w.table-is (drivers_same c.args.nets.now c.args.items.now c.loop-k.k c.index-items-k.result c.loop-k.table.items c.loop-k.invariant (entry c.args.items.now c.loop-k.k c.index-items-k.result c.loop-k-test.true c.index-items-k.is) (sym c.is_clocked.ensures ∙ w.if-not-is_clocked.false))
     ]

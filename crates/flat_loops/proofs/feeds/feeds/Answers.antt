@@ -1,5 +1,4 @@
-use Rattle.std.proofs.Common.{◌∙◌, sym, ap, take, ◌+◌}
-use Rattle.flat_loops.specs.Feeding.{ArePassed}
+use Rattle.std.proofs.Common.{◌∙◌, sym}
 use Rattle.flat_loops.proofs.FeedLemmas.{passed_more, passed_none}
 use Rattle.flat_loops.proofs.feeds.feeds.Goals as goal
 use Rattle.flat_loops.proofs.feeds.feeds.Goals.{in-Some+in_ok-push, in_default}

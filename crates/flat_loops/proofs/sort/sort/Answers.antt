@@ -1,4 +1,4 @@
-use Rattle.std.proofs.Common.{◌≡◌, ◌<◌, ◌∙◌, length, true, sym, ap, arith}
+use Rattle.std.proofs.Common.{◌≡◌, ◌<◌, ◌∙◌, length, true, ap, arith}
 use Rattle.std.specs.Prelude.{slice_index_or}
 use Rattle.flat_orders.specs.Orders.{among}
 use Rattle.flat_loops.proofs.SortLemmas.{match_none, entry_there, covers_more, whole}

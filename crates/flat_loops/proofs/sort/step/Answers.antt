@@ -1,4 +1,4 @@
-use Rattle.std.proofs.Common.{◌≡◌, ◌∙◌, ◌++◌, ◌∷◌, [], true, false, sym, ap}
+use Rattle.std.proofs.Common.{◌∙◌, ◌++◌, ◌∷◌, [], true, false, sym, ap}
 use Rattle.flat_loops.proofs.SortLemmas.{step_back, step_sorted, step_on, step_round, got}
 use Rattle.flat_loops.proofs.sort.step.Goals as goal
 
