@@ -1,0 +1,5 @@
+pub mod Graphs
+pub mod Steps
+pub mod Sortings
+pub mod Feeding
+pub mod Orderings
