@@ -9,15 +9,17 @@ use Rattle.prove_top.specs.declared.gather.Kind.{Kind}
 use Rattle.prove_top.specs.declared.gather.Shortfall.{Shortfall}
 use Rattle.prove_top.specs.declared.gather.Shortfall.TheVariants.{Missing, Long}
 use Rattle.prove_top.specs.declared.report.Report.{Report}
-use Rattle.prove_top.specs.declared.report.Report.TheVariants.{Usage, Refused, WrongTrace, Refuted, Simulated, Agrees, Differs, Fault}
+use Rattle.prove_top.specs.declared.report.Report.TheVariants.{Usage, Refused, WrongTrace, WrongDescription, Described, Refuted, Simulated, Agrees, Differs, Fault}
 use Rattle.prove_top.specs.declared.report.Status.{Status}
 use Rattle.prove_top.specs.declared.report.Status.TheVariants as status
 use Rattle.prove_top.specs.declared.words.Command.{Command}
+use Rattle.prove_top.specs.declared.words.BlockTask.{BlockTask}
 use Rattle.prove_top.specs.declared.words.Task.{Task}
+use Rattle.prove_top.specs.declared.words.Task.TheVariants as tasks
 use Rattle.prove_top.specs.declared.words.Work.{Work}
 use Rattle.prove_top.specs.declared.words.Work.TheVariants as work
 use Rattle.prove_top.specs.Allowed.{MaySample, MayReplay, MayWork, MayTask, MayCommand, MayCome, PutsAllowed}
-use Rattle.prove_top.specs.Answer.{difference_report, run_report, sample_report, Replays, ReplayAnswer, WorkAnswer, TextsAnswer, text_at, block_of, short_report}
+use Rattle.prove_top.specs.Answer.{DescriptionAnswer, difference_report, run_report, sample_report, Replays, ReplayAnswer, WorkAnswer, TextsAnswer, text_at, block_of, short_report}
 use Rattle.prove_top.specs.Ends.{Ends, UnlessFailed}
 use Rattle.prove_top.specs.Report.{file_of, run_trace}
 use Rattle.prove_top.specs.Sampled.{sampled}
@@ -29,7 +31,7 @@ difference-may : (block : Block) (seed : ℕ) (to : Option (List ℕ)) (found : 
 difference-may block seed to None = tt
 difference-may block seed to (Some first) = refl
 
-sample-may : (task : Task) (seed : ℕ) (block : Result Block Kind) → MaySample task.trace_file (sample_report task seed block)
+sample-may : (task : BlockTask) (seed : ℕ) (block : Result Block Kind) → MaySample task.trace_file (sample_report task seed block)
 unfolding run_report
 sample-may task seed (Ok block) = difference-may block seed task.trace_file (sampled block seed)
 sample-may task seed (Err kind) = tt
@@ -42,21 +44,23 @@ replays-may block trace text (Refused why file) h = tt
 replays-may block trace text Usage h = h
 replays-may block trace text (Refuted edge what trace_text to) h = h
 replays-may block trace text Simulated h = h
+replays-may block trace text (WrongDescription code place file) h = h
+replays-may block trace text (Described map_text) h = h
 replays-may block trace text (Fault store file) h = tt
 
-replay-may : (task : Task) (trace text : List ℕ) (block : Result Block Kind) (report : Report) → ReplayAnswer task trace text block report → MayReplay trace report
+replay-may : (task : BlockTask) (trace text : List ℕ) (block : Result Block Kind) (report : Report) → ReplayAnswer task trace text block report → MayReplay trace report
 replay-may task trace text (Ok block) report h = replays-may block trace text report h
 replay-may task trace text (Err kind) report h = let P : Report → Type 0 = λ r. MayReplay trace r in subst P (sym h) tt
 
 -- what a task comes to on its texts
-work-may : (task : Task) (texts : List (List ℕ)) (asked : Work) (report : Report) → WorkAnswer task texts asked report → MayWork task.trace_file asked report
+work-may : (task : BlockTask) (texts : List (List ℕ)) (asked : Work) (report : Report) → WorkAnswer task texts asked report → MayWork task.trace_file asked report
 work-may task texts (work.Sample seed) report h =
     let P : Report → Type 0 = λ r. MaySample task.trace_file r in
     subst P (sym h) (sample-may task seed (block_of (text_at texts 0) (text_at texts 1) (text_at texts 2)))
 work-may task texts (work.Replay trace) report h =
     replay-may task trace (text_at texts 0) (block_of (text_at texts 1) (text_at texts 2) (text_at texts 3)) report h
 
-pub texts-may : {E : Type 0} (task : Task) (texts : List (List ℕ)) (r : Result Report E) → IfOk r (λ report. TextsAnswer task texts report) → IfOk r (λ report. MayTask (Some task) report)
+pub texts-may : {E : Type 0} (task : BlockTask) (texts : List (List ℕ)) (r : Result Report E) → IfOk r (λ report. TextsAnswer task texts report) → IfOk r (λ report. MayTask (Some (tasks.Block task)) report)
 texts-may task texts (Ok report) h = work-may task texts task.work report h
 texts-may task texts (Err e) h = tt
 
@@ -66,14 +70,14 @@ short-work to (work.Sample seed) (Long kind name) = tt
 short-work to (work.Replay trace) (Missing name) = tt
 short-work to (work.Replay trace) (Long kind name) = tt
 
-pub short-may : (task : Task) (short : Shortfall) → MayTask (Some task) (short_report short)
+pub short-may : (task : BlockTask) (short : Shortfall) → MayTask (Some (tasks.Block task)) (short_report short)
 short-may task short = short-work task.trace_file task.work short
 
 fault-work : (to : Option (List ℕ)) (asked : Work) (store : Bool) (name : List ℕ) → MayWork to asked (Fault store name)
 fault-work to (work.Sample seed) store name = tt
 fault-work to (work.Replay trace) store name = tt
 
-pub fault-may : (task : Task) (store : Bool) (name : List ℕ) → MayTask (Some task) (Fault store name)
+pub fault-may : (task : BlockTask) (store : Bool) (name : List ℕ) → MayTask (Some (tasks.Block task)) (Fault store name)
 fault-may task store name = fault-work task.trace_file task.work store name
 
 pub plan-may : {E : Type 0} (r : Result Report E) (words : List (List ℕ)) (command : Command) (task : Option Task) → command_of words ≡ Some command → task_of command ≡ task
@@ -86,7 +90,8 @@ plan-may r words command task is answered h =
 -- a report with a file for its trace is one of a task, so a failed store may be told
 task-fault : (task : Option Task) (report : Report) (name : List ℕ) → file_of report ≡ Some name → MayTask task report → MayTask task (Fault true name)
 task-fault None report name is h = let P : Report → Type 0 = λ r. file_of r ≡ Some name in absurd (none-some name (subst P h is))
-task-fault (Some task) report name is h = fault-may task true name
+task-fault (Some (tasks.Block task)) report name is h = fault-may task true name
+task-fault (Some (tasks.Describe rdl)) report name is h = tt
 
 command-fault : (command : Option Command) (report : Report) (name : List ℕ) → file_of report ≡ Some name → MayCommand command report → MayCommand command (Fault true name)
 command-fault None report name is h = let P : Report → Type 0 = λ r. file_of r ≡ Some name in absurd (none-some name (subst P h is))
@@ -117,3 +122,24 @@ puts-allowed report words old new before now ended may (inr (inr wants)) = unles
 
 pub wanting-allowed : (words : List (List ℕ)) (old new : Option (List ℕ)) (ended : Status) → ended ≡ status.NoMemory → UnlessFailed ended (PutsAllowed words old new ended)
 wanting-allowed words old new ended said = unless-memory ended (PutsAllowed words old new ended) said
+
+-- of a description
+description-may : (name bytes : List ℕ) (report : Report) → DescriptionAnswer name bytes report → MayTask (Some (tasks.Describe name)) report
+description-may name bytes (Described text) h = (bytes, h)
+description-may name bytes (WrongDescription code place file) h = h.0
+description-may name bytes Usage h = h
+description-may name bytes (Refused why file) h = tt
+description-may name bytes (WrongTrace why line file) h = h
+description-may name bytes (Refuted edge what trace to) h = h
+description-may name bytes Simulated h = h
+description-may name bytes (Agrees edges) h = h
+description-may name bytes (Differs edge what) h = h
+description-may name bytes (Fault store file) h = tt
+
+pub described-may : {E : Type 0} (name bytes : List ℕ) (r : Result Report E) → IfOk r (λ report. DescriptionAnswer name bytes report) → IfOk r (λ report. MayTask (Some (tasks.Describe name)) report)
+described-may name bytes (Ok report) h = description-may name bytes report h
+described-may name bytes (Err e) h = tt
+
+pub lacking-may : (name : List ℕ) (short : Shortfall) → MayTask (Some (tasks.Describe name)) (short_report short)
+lacking-may name (Missing file) = tt
+lacking-may name (Long kind file) = tt

@@ -13,18 +13,20 @@ use Rattle.prove_top.specs.declared.gather.Kind.{Kind}
 use Rattle.prove_top.specs.declared.gather.Shortfall.{Shortfall}
 use Rattle.prove_top.specs.declared.gather.Shortfall.TheVariants.{Missing, Long}
 use Rattle.prove_top.specs.declared.report.Report.{Report}
-use Rattle.prove_top.specs.declared.report.Report.TheVariants.{Usage, Refused, WrongTrace, Refuted, Simulated, Agrees, Differs, Fault}
+use Rattle.prove_top.specs.declared.report.Report.TheVariants.{Usage, Refused, WrongTrace, WrongDescription, Described, Refuted, Simulated, Agrees, Differs, Fault}
 use Rattle.prove_top.specs.declared.report.Refusal.TheVariants.{RdlSize, VlogSize, PortSize, TraceSize, NoFile, NotYet}
 use Rattle.prove_top.specs.declared.report.Status.{Status}
 use Rattle.prove_top.specs.declared.report.Status.TheVariants as status
+use Rattle.prove_top.specs.declared.words.BlockTask.{BlockTask}
 use Rattle.prove_top.specs.declared.words.Task.{Task}
+use Rattle.prove_top.specs.declared.words.Task.TheVariants as tasks
 use Rattle.prove_top.specs.declared.words.Work.{Work}
 use Rattle.prove_top.specs.declared.words.Work.TheVariants as work
 use Rattle.trace_replay.specs.Trace.{trace_difference}
 use Rattle.trace_replay.specs.Laws.{OneReading}
-use Rattle.prove_top.specs.Answer.{TellsFailed, Answers, CommandAnswer, AskedAnswer, FilesAnswer, WorkAnswer, ReplayAnswer, Replays, ReplaysTo, short_report, sample_report, block_of, run_report, difference_report, text_at, wanted_of, name_of, names_asked, task_names}
-use Rattle.prove_top.specs.Asked.{with_block, sample_block, replay_block, of_texts, of_task}
-use Rattle.prove_top.specs.Clauses.{Added, IsFaultOrMemory, PutsPart, PutsFault, PutsPartThenMemory, SampledDiffers, SampledAgrees, ReplayAgrees, ReplayDiffers}
+use Rattle.prove_top.specs.Answer.{DescriptionAnswer, GatheredAnswer, description_wanted, TellsFailed, Answers, CommandAnswer, AskedAnswer, FilesAnswer, WorkAnswer, ReplayAnswer, Replays, ReplaysTo, short_report, sample_report, block_of, run_report, difference_report, text_at, wanted_of, name_of, names_asked, task_names}
+use Rattle.prove_top.specs.Asked.{description_in, first_text, with_block, sample_block, replay_block, of_texts, of_task}
+use Rattle.prove_top.specs.Clauses.{Added, IsFaultOrMemory, PutsPart, PutsFault, PutsPartThenMemory, SampledDiffers, SampledAgrees, DescriptionHasMap, ReplayAgrees, ReplayDiffers}
 use Rattle.prove_top.specs.Ends.{Ends, MayReport, PutsAnswer, Ran, Runs, UnlessFailed}
 use Rattle.prove_top.specs.Gather.{gathered}
 use Rattle.prove_top.specs.Reads.{AreCalls, AreReads, Called, GoesOn, NoStores, failed_of}
@@ -32,7 +34,10 @@ use Rattle.prove_top.specs.Report.{status_of, text_of}
 use Rattle.prove_top.specs.Sampled.{sampled}
 use Rattle.std.specs.Option.{option_and_then}
 use Rattle.prove_top.specs.declared.words.Command.{Command}
-use Rattle.prove_top.specs.Words.{command_of, task_of, trace_file}
+use Rattle.prove_top.specs.Words.{command_of, task_of, trace_file, trace_file_of}
+use Rattle.rdl_report.specs.Described.{IsMapText}
+use Rattle.rdl_report.specs.OneAnswer.{HasOneAnswer}
+use Rattle.prove_top.proofs.DescriptionLemmas.{map_or_refused}
 use Rattle.prove_top.proofs.EndLemmas.{part-whole, unless-map}
 
 module _ (names : List (List ℕ)) (to : Option (List ℕ)) (before after : Option (List DepotCall)) (P : List DepotCall → Type 0) where
@@ -62,6 +67,8 @@ tells-fault Usage store name failed is tells = cc
 tells-fault (Refused why file) store name failed is tells = cc
 tells-fault (Refuted edge what trace to) store name failed is tells = cc
 tells-fault Simulated store name failed is tells = cc
+tells-fault (WrongDescription code place file) store name failed is tells = cc
+tells-fault (Described map_text) store name failed is tells = cc
 tells-fault (WrongTrace why line file) store name failed is tells = cc
 tells-fault (Agrees edges) store name failed is tells = cc
 tells-fault (Differs edge what) store name failed is tells = cc
@@ -72,6 +79,8 @@ no-fault Usage failed Q is tells said = cc
 no-fault (Refused why file) failed Q is tells said = cc
 no-fault (Refuted edge what trace to) failed Q is tells said = cc
 no-fault Simulated failed Q is tells said = cc
+no-fault (WrongDescription code place file) failed Q is tells said = cc
+no-fault (Described map_text) failed Q is tells said = cc
 no-fault (WrongTrace why line file) failed Q is tells said = cc
 no-fault (Agrees edges) failed Q is tells said = cc
 no-fault (Differs edge what) failed Q is tells said = cc
@@ -82,6 +91,8 @@ never-memory Usage Q said = cc
 never-memory (Refused why file) Q said = cc
 never-memory (Refuted edge what trace to) Q said = cc
 never-memory Simulated Q said = cc
+never-memory (WrongDescription code place file) Q said = cc
+never-memory (Described map_text) Q said = cc
 never-memory (WrongTrace why line file) Q said = cc
 never-memory (Agrees edges) Q said = cc
 never-memory (Differs edge what) Q said = cc
@@ -137,10 +148,14 @@ module _ (told : Option Files) (words : List (List ℕ)) (old new : Option (List
   no_memory_bytes (inl ran) said = memory-of ran.report ran.may ran.ends said
   no_memory_bytes (inr wants) said = record { middle = old; first = inr refl; last = wants.written }
 
--- the status of a report, by the block and the seed, or the block and the trace text, that were asked for
-record Says (report : Report) (asked : Option (Block × ℕ)) (replayed : Option (Block × List ℕ)) : Type 0 where
+abbrev HasMap : List ℕ → Type 0
+HasMap bytes = (text : List ℕ) × IsMapText bytes text
+
+-- the status of a report, by the block and the seed, the block and the trace text, or the bytes of the
+-- description, that were asked for
+record Says (report : Report) (asked : Option (Block × ℕ)) (replayed : Option (Block × List ℕ)) (described : Option (List ℕ)) : Type 0 where
   unknown : (status_of report ≡ status.Unknown) ↔ IsSomeAnd asked (λ a. sampled a.0 a.1 ≡ None)
-  agrees : (status_of report ≡ status.Yes) ↔ IsSomeAnd replayed (λ a. (count : ℕ) × ReplaysTo a.0 a.1 None count)
+  agrees : (status_of report ≡ status.Yes) ↔ (IsSomeAnd replayed (λ a. (count : ℕ) × ReplaysTo a.0 a.1 None count) ⊎ IsSomeAnd described HasMap)
   differs : (status_of report ≡ status.No)
       ↔ (IsSomeAnd asked (λ a. IsSome (sampled a.0 a.1)) ⊎ IsSomeAnd replayed (λ a. (first : ℕ × Difference) × ((count : ℕ) × ReplaysTo a.0 a.1 (Some first) count)))
 
@@ -152,35 +167,35 @@ either-none a b (inl h) = a h
 either-none a b (inr h) = b h
 
 -- a report under another status says nothing of a block
-quiet : (report : Report) → (status_of report ≡ status.Refused) ⊎ (status_of report ≡ status.Usage) → Says report None None
+quiet : (report : Report) → (status_of report ≡ status.Refused) ⊎ (status_of report ≡ status.Usage) → Says report None None None
 quiet report (inl is) = record {
   unknown = neither-of (λ h. let no_way : status.Refused ≡ status.Unknown = sym is ∙ h in cc) (λ h. h);
-  agrees = neither-of (λ h. let no_way : status.Refused ≡ status.Yes = sym is ∙ h in cc) (λ h. h);
+  agrees = neither-of (λ h. let no_way : status.Refused ≡ status.Yes = sym is ∙ h in cc) (either-none (λ h. h) (λ h. h));
   differs = neither-of (λ h. let no_way : status.Refused ≡ status.No = sym is ∙ h in cc) (either-none (λ h. h) (λ h. h));
 }
 quiet report (inr is) = record {
   unknown = neither-of (λ h. let no_way : status.Usage ≡ status.Unknown = sym is ∙ h in cc) (λ h. h);
-  agrees = neither-of (λ h. let no_way : status.Usage ≡ status.Yes = sym is ∙ h in cc) (λ h. h);
+  agrees = neither-of (λ h. let no_way : status.Usage ≡ status.Yes = sym is ∙ h in cc) (either-none (λ h. h) (λ h. h));
   differs = neither-of (λ h. let no_way : status.Usage ≡ status.No = sym is ∙ h in cc) (either-none (λ h. h) (λ h. h));
 }
 
-difference-says : (block : Block) (seed : ℕ) (to : Option (List ℕ)) (first : Option (ℕ × Difference)) → first ≡ sampled block seed → Says (difference_report block seed to first) (Some (block, seed)) None
+difference-says : (block : Block) (seed : ℕ) (to : Option (List ℕ)) (first : Option (ℕ × Difference)) → first ≡ sampled block seed → Says (difference_report block seed to first) (Some (block, seed)) None None
 difference-says block seed due None is = record {
   unknown = (λ h. sym is, λ h. refl);
-  agrees = neither-of (λ h. cc) (λ h. h);
+  agrees = neither-of (λ h. cc) (either-none (λ h. h) (λ h. h));
   differs = neither-of (λ h. cc) (either-none (λ h. let no_way : is_some (sampled block seed) ≡ false = ap is_some (sym is) in cc) (λ h. h));
 }
 difference-says block seed due (Some first) is = record {
   unknown = neither-of (λ h. cc) (λ h. let no_way : ◌≡◌ {A = Option (ℕ × Difference)} (Some first) None = is ∙ h in cc);
-  agrees = neither-of (λ h. cc) (λ h. h);
+  agrees = neither-of (λ h. cc) (either-none (λ h. h) (λ h. h));
   differs = (λ h. inl (ap is_some (sym is)), λ h. refl);
 }
 
-run-says : (block : Block) (seed : ℕ) (to : Option (List ℕ)) → Says (run_report block seed to) (Some (block, seed)) None
+run-says : (block : Block) (seed : ℕ) (to : Option (List ℕ)) → Says (run_report block seed to) (Some (block, seed)) None None
 unfolding run_report
 run-says block seed to = difference-says block seed to (sampled block seed) refl
 
-sample-says : (task : Task) (seed : ℕ) (block : Result Block Kind) → Says (sample_report task seed block) (with_block seed block) None
+sample-says : (task : BlockTask) (seed : ℕ) (block : Result Block Kind) → Says (sample_report task seed block) (with_block seed block) None None
 sample-says task seed (Ok block) = run-says block seed task.trace_file
 sample-says task seed (Err kind) = quiet (Refused NotYet (name_of task kind)) (inl refl)
 
@@ -188,32 +203,32 @@ some-none : (first : ℕ × Difference) → ◌≡◌ {A = Option (ℕ × Differ
 some-none first same = cc
 
 wrong-says : (block : Block) (text : List ℕ) (report : Report) → status_of report ≡ status.Refused → ((found : Option (ℕ × Difference)) (count : ℕ) → ReplaysTo block text found count → ⊥)
-    → Says report None (Some (block, text))
+    → Says report None (Some (block, text)) None
 wrong-says block text report is none = record {
   unknown = neither-of (λ h. let no_way : status.Refused ≡ status.Unknown = sym is ∙ h in cc) (λ h. h);
-  agrees = neither-of (λ h. let no_way : status.Refused ≡ status.Yes = sym is ∙ h in cc) (λ h. none None h.0 h.1);
+  agrees = neither-of (λ h. let no_way : status.Refused ≡ status.Yes = sym is ∙ h in cc) (either-none (λ h. none None h.0 h.1) (λ h. h));
   differs = neither-of (λ h. let no_way : status.Refused ≡ status.No = sym is ∙ h in cc) (either-none (λ h. h) (λ h. none (Some h.0) h.1.0 h.1.1));
 }
 
-says-as : (report due : Report) (asked : Option (Block × ℕ)) (replayed : Option (Block × List ℕ)) → report ≡ due → Says due asked replayed → Says report asked replayed
-says-as report due asked replayed is h = let P : Report → Type 0 = λ r. Says r asked replayed in subst P (sym is) h
+says-as : (report due : Report) (asked : Option (Block × ℕ)) (replayed : Option (Block × List ℕ)) (described : Option (List ℕ)) → report ≡ due → Says due asked replayed described → Says report asked replayed described
+says-as report due asked replayed described is h = let P : Report → Type 0 = λ r. Says r asked replayed described in subst P (sym is) h
 
 -- the run of a trace text has one first difference
-module _ (law : OneReading) where
+module _ (law : OneReading) (reads : HasOneAnswer) where
   one-run : (block : Block) (text : List ℕ) (a b : Option (ℕ × Difference)) (m n : ℕ) → ReplaysTo block text a m → ReplaysTo block text b n → a ≡ b
   one-run block text a b m n one two =
       let same = law.one_trace block text one.start two.start one.edges two.edges one.legal two.legal one.is two.is in
       sym one.first ∙ ap (λ s. trace_difference block s one.edges) same.0 ∙ ap (λ es. trace_difference block two.start es) same.1 ∙ two.first
 
-  replays-says : (block : Block) (name text : List ℕ) (report : Report) → Replays block name text report → Says report None (Some (block, text))
+  replays-says : (block : Block) (name text : List ℕ) (report : Report) → Replays block name text report → Says report None (Some (block, text)) None
   replays-says block name text (Agrees edges) h = record {
     unknown = neither-of (λ e. cc) (λ e. e);
-    agrees = (λ e. (edges, h), λ e. refl);
+    agrees = (λ e. inl (edges, h), λ e. refl);
     differs = neither-of (λ e. cc) (either-none (λ e. e) (λ e. some-none e.0 (one-run block text (Some e.0) None e.1.0 edges e.1.1 h)));
   }
   replays-says block name text (Differs edge what) h = record {
     unknown = neither-of (λ e. cc) (λ e. e);
-    agrees = neither-of (λ e. cc) (λ e. some-none (edge, what) (one-run block text (Some (edge, what)) None h.0 e.0 h.1 e.1));
+    agrees = neither-of (λ e. cc) (either-none (λ e. some-none (edge, what) (one-run block text (Some (edge, what)) None h.0 e.0 h.1 e.1)) (λ e. e));
     differs = (λ e. inr ((edge, what), h), λ e. refl);
   }
   replays-says block name text (WrongTrace why line file) h =
@@ -227,37 +242,64 @@ module _ (law : OneReading) where
   replays-says block name text Usage h = absurd h
   replays-says block name text (Refuted edge what trace to) h = absurd h
   replays-says block name text Simulated h = absurd h
+  replays-says block name text (WrongDescription code place file) h = absurd h
+  replays-says block name text (Described map_text) h = absurd h
   replays-says block name text (Fault store file) h = absurd h
 
-  replay-says : (task : Task) (trace text : List ℕ) (block : Result Block Kind) (report : Report) → ReplayAnswer task trace text block report → Says report None (with_block text block)
+  replay-says : (task : BlockTask) (trace text : List ℕ) (block : Result Block Kind) (report : Report) → ReplayAnswer task trace text block report → Says report None (with_block text block) None
   replay-says task trace text (Ok block) report h = replays-says block trace text report h
-  replay-says task trace text (Err kind) report h = says-as report (Refused NotYet (name_of task kind)) None None h (quiet (Refused NotYet (name_of task kind)) (inl refl))
+  replay-says task trace text (Err kind) report h = says-as report (Refused NotYet (name_of task kind)) None None None h (quiet (Refused NotYet (name_of task kind)) (inl refl))
 
-  work-says : (task : Task) (texts : List (List ℕ)) (does : Work) (report : Report) → WorkAnswer task texts does report → Says report (sample_block does texts) (replay_block does texts)
-  work-says task texts (work.Sample seed) report h = says-as report _ _ _ h (sample-says task seed (block_of (text_at texts 0) (text_at texts 1) (text_at texts 2)))
+  work-says : (task : BlockTask) (texts : List (List ℕ)) (does : Work) (report : Report) → WorkAnswer task texts does report → Says report (sample_block does texts) (replay_block does texts) None
+  work-says task texts (work.Sample seed) report h = says-as report _ _ _ _ h (sample-says task seed (block_of (text_at texts 0) (text_at texts 1) (text_at texts 2)))
   work-says task texts (work.Replay trace) report h = replay-says task trace (text_at texts 0) (block_of (text_at texts 1) (text_at texts 2) (text_at texts 3)) report h
 
   short-status : (short : Shortfall) → status_of (short_report short) ≡ status.Refused
   short-status (Missing name) = refl
   short-status (Long kind name) = refl
 
-  files-says : (task : Task) (files : Result (List (List ℕ)) Shortfall) (report : Report) → FilesAnswer task files report → Says report (of_texts sample_block task files) (of_texts replay_block task files)
-  files-says task (Err short) report h = says-as report (short_report short) None None h (quiet (short_report short) (inl (short-status short)))
+  files-says : (task : BlockTask) (files : Result (List (List ℕ)) Shortfall) (report : Report) → FilesAnswer task files report → Says report (of_texts sample_block task files) (of_texts replay_block task files) None
+  files-says task (Err short) report h = says-as report (short_report short) None None None h (quiet (short_report short) (inl (short-status short)))
   files-says task (Ok texts) report h = work-says task texts task.work report h
 
-  asked-says : (files : Files) (task : Option Task) (report : Report) → AskedAnswer files task report → Says report (of_task sample_block files task) (of_task replay_block files task)
-  asked-says files None report h = says-as report (Refused NotYet (codes "words")) None None h (quiet (Refused NotYet (codes "words")) (inl refl))
-  asked-says files (Some task) report h = files-says task (gathered files (wanted_of task)) report h
+  description-says : (name bytes : List ℕ) (report : Report) → DescriptionAnswer name bytes report → Says report None None (Some bytes)
+  description-says name bytes (Described text) h = record {
+    unknown = neither-of (λ e. cc) (λ e. e);
+    agrees = (λ e. inr (text, h), λ e. refl);
+    differs = neither-of (λ e. cc) (either-none (λ e. e) (λ e. e));
+  }
+  description-says name bytes (WrongDescription code place file) h = record {
+    unknown = neither-of (λ e. cc) (λ e. e);
+    agrees = neither-of (λ e. cc) (either-none (λ e. e) (λ e. map_or_refused reads bytes e.0 code place e.1 h.1));
+    differs = neither-of (λ e. cc) (either-none (λ e. e) (λ e. e));
+  }
+  description-says name bytes Usage h = absurd h
+  description-says name bytes (Refused why file) h = absurd h
+  description-says name bytes (WrongTrace why line file) h = absurd h
+  description-says name bytes (Refuted edge what trace to) h = absurd h
+  description-says name bytes Simulated h = absurd h
+  description-says name bytes (Agrees edges) h = absurd h
+  description-says name bytes (Differs edge what) h = absurd h
+  description-says name bytes (Fault store file) h = absurd h
+
+  gathered-says : (name : List ℕ) (got : Result (List (List ℕ)) Shortfall) (report : Report) → GatheredAnswer name got report → Says report None None (first_text got)
+  gathered-says name (Err short) report h = says-as report (short_report short) None None None h (quiet (short_report short) (inl (short-status short)))
+  gathered-says name (Ok texts) report h = description-says name (text_at texts 0) report h
+
+  asked-says : (files : Files) (task : Option Task) (report : Report) → AskedAnswer files task report → Says report (of_task sample_block files task) (of_task replay_block files task) (description_in files task)
+  asked-says files None report h = says-as report (Refused NotYet (codes "words")) None None None h (quiet (Refused NotYet (codes "words")) (inl refl))
+  asked-says files (Some (tasks.Block task)) report h = files-says task (gathered files (wanted_of task)) report h
+  asked-says files (Some (tasks.Describe rdl)) report h = gathered-says rdl (gathered files (description_wanted rdl)) report h
 
   command-says : (files : Files) (command : Option Command) (report : Report) → CommandAnswer files command report
-      → Says report (of_task sample_block files (option_and_then task_of command)) (of_task replay_block files (option_and_then task_of command))
-  command-says files None report h = says-as report Usage None None h (quiet Usage (inr refl))
+      → Says report (of_task sample_block files (option_and_then task_of command)) (of_task replay_block files (option_and_then task_of command)) (description_in files (option_and_then task_of command))
+  command-says files None report h = says-as report Usage None None None h (quiet Usage (inr refl))
   command-says files (Some command) report h = asked-says files (task_of command) report h
 
   pub unknown-status : (words : List (List ℕ)) (files : Files) (report : Report) → Answers files words report → (status_of report ≡ status.Unknown) ↔ SampledAgrees files words
   unknown-status words files report answer = (command-says files (command_of words) report answer).unknown
 
-  pub agrees-status : (words : List (List ℕ)) (files : Files) (report : Report) → Answers files words report → (status_of report ≡ status.Yes) ↔ ReplayAgrees files words
+  pub agrees-status : (words : List (List ℕ)) (files : Files) (report : Report) → Answers files words report → (status_of report ≡ status.Yes) ↔ (ReplayAgrees files words ⊎ DescriptionHasMap files words)
   agrees-status words files report answer = (command-says files (command_of words) report answer).agrees
 
   pub differs-status : (words : List (List ℕ)) (files : Files) (report : Report) → Answers files words report
@@ -288,6 +330,8 @@ usage-is (Refused why file) said = cc
 usage-is (WrongTrace why line file) said = cc
 usage-is (Refuted edge what trace to) said = cc
 usage-is Simulated said = cc
+usage-is (WrongDescription code place file) said = cc
+usage-is (Described map_text) said = cc
 usage-is (Agrees edges) said = cc
 usage-is (Differs edge what) said = cc
 usage-is (Fault store file) said = cc
@@ -311,6 +355,6 @@ pub usage-report : (told after : Option Files) (words : List (List ℕ)) (calls_
     → ended ≡ status.Usage → (new ≡ after_put old (text_of Usage)) × (calls_after ≡ calls_before)
 usage-report told after words calls_before calls_after old new before now ended usage all said =
     let none : command_of words ≡ None = (at-usage ended ((ended ≡ status.Usage) ↔ (command_of words ≡ None)) said usage).0 said in
-    let P : Option Task → Type 0 = λ t. AreCalls (task_names t) (option_and_then (λ task. task.trace_file) t) all.added in
+    let P : Option Task → Type 0 = λ t. AreCalls (task_names t) (option_and_then trace_file_of t) all.added in
     let are : AreCalls [] None all.added = subst P (ap (option_and_then task_of) none) all.calls in
     (usage-ran told words old new before now ended all.added said all.ends.ran, all.told ∙ ap (after_calls calls_before) (no-calls all.added are) ∙ after-none calls_before)

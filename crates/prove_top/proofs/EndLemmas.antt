@@ -10,7 +10,7 @@ use Rattle.tool_edge.specs.Files.{Files}
 use Rattle.tool_edge.specs.Written.{after_put, AppendsPart}
 use Rattle.tool_edge.specs.declared.depot.DepotCall.{DepotCall}
 use Rattle.prove_top.specs.declared.report.Report.{Report}
-use Rattle.prove_top.specs.declared.report.Report.TheVariants.{Usage, Refused, WrongTrace, Refuted, Simulated, Agrees, Differs, Fault}
+use Rattle.prove_top.specs.declared.report.Report.TheVariants.{Usage, Refused, WrongTrace, WrongDescription, Described, Refuted, Simulated, Agrees, Differs, Fault}
 use Rattle.prove_top.specs.declared.report.Status.{Status}
 use Rattle.prove_top.specs.declared.report.Status.TheVariants as status
 use Rattle.prove_top.specs.declared.report.TheConstants.{MEMORY_LINE}
@@ -55,6 +55,8 @@ completes-fact (Refused why file) ended A Q a said f = unless-any ended Q (f a)
 completes-fact (WrongTrace why line file) ended A Q a said f = unless-any ended Q (f a)
 completes-fact (Refuted edge what trace to) ended A Q a said f = unless-any ended Q (f a)
 completes-fact Simulated ended A Q a said f = unless-any ended Q (f a)
+completes-fact (WrongDescription code place file) ended A Q a said f = unless-any ended Q (f a)
+completes-fact (Described map_text) ended A Q a said f = unless-any ended Q (f a)
 completes-fact (Agrees edges) ended A Q a said f = unless-any ended Q (f a)
 completes-fact (Differs edge what) ended A Q a said f = unless-any ended Q (f a)
 completes-fact (Fault store file) ended A Q a said f = unless-fault ended Q said
@@ -84,6 +86,8 @@ report-map (Refused why file) A B f a = f a
 report-map (WrongTrace why line file) A B f a = f a
 report-map (Refuted edge what trace to) A B f a = f a
 report-map Simulated A B f a = f a
+report-map (WrongDescription code place file) A B f a = f a
+report-map (Described map_text) A B f a = f a
 report-map (Agrees edges) A B f a = f a
 report-map (Differs edge what) A B f a = f a
 report-map (Fault store file) A B f a = tt

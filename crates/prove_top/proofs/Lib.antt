@@ -9,6 +9,7 @@ mod SoundLemmas
 mod VerilogLemmas
 mod ReadingLemmas
 mod EndLemmas
+mod DescriptionLemmas
 mod ClauseLemmas
 mod WordLemmas
 mod RefutedLemmas

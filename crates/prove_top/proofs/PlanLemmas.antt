@@ -3,9 +3,11 @@ use Rattle.std.proofs.Common.{◌≡◌, ℕ, ◌<◌, ◌≤◌, Bool, List, []
 use Rattle.tool_edge.specs.Files.{Files}
 use Rattle.tool_edge.specs.declared.depot.DepotCall.{DepotCall}
 use Rattle.prove_top.specs.declared.report.Report.{Report}
-use Rattle.prove_top.specs.declared.report.Report.TheVariants.{Usage, Refused, WrongTrace, Refuted, Simulated, Agrees, Differs, Fault}
+use Rattle.prove_top.specs.declared.report.Report.TheVariants.{Usage, Refused, WrongTrace, WrongDescription, Described, Refuted, Simulated, Agrees, Differs, Fault}
 use Rattle.prove_top.specs.declared.words.Command.{Command}
+use Rattle.prove_top.specs.declared.words.BlockTask.{BlockTask}
 use Rattle.prove_top.specs.declared.words.Task.{Task}
+use Rattle.prove_top.specs.declared.words.Task.TheVariants as tasks
 use Rattle.prove_top.specs.declared.words.Work.{Work}
 use Rattle.prove_top.specs.declared.words.Work.TheVariants as work
 use Rattle.prove_top.specs.declared.gather.Shortfall.{Shortfall}
@@ -21,7 +23,7 @@ use Rattle.trace_replay.specs.Lines.{lines_of}
 use Rattle.trace_replay.specs.Reading.{IsIllegal, IsWrongLine, IsWrongName, Refuses}
 use Rattle.trace_replay.specs.Trace.{trace_difference}
 use Rattle.trace_replay.specs.TraceText.{trace_text}
-use Rattle.prove_top.specs.Answer.{ComesAfter, IsAnswer, IsUsage, IfFault, UnlessFault, TellsFailed, Answers, CommandAnswer, AskedAnswer, TaskAnswer, FilesAnswer, TextsAnswer, WorkAnswer, ReplayAnswer, Replays, block_of, block_wanted, wanted_for, wanted_of, short_report, sample_report, trace_report, wrong_report, text_at}
+use Rattle.prove_top.specs.Answer.{DescriptionAnswer, GatheredAnswer, description_wanted, ComesAfter, IsAnswer, IsUsage, IfFault, UnlessFault, TellsFailed, Answers, CommandAnswer, AskedAnswer, TaskAnswer, FilesAnswer, TextsAnswer, WorkAnswer, ReplayAnswer, Replays, block_of, block_wanted, wanted_for, wanted_of, short_report, sample_report, trace_report, wrong_report, text_at}
 use Rattle.prove_top.specs.declared.gather.Wanted.{Wanted}
 use Rattle.prove_top.specs.Gather.{contents, gathered, names_of}
 use Rattle.prove_top.specs.Reads.{AreReads, ReadsOnly, failed_of, whole_reads}
@@ -34,6 +36,8 @@ answer-usage asked Usage answer usage = answer
 answer-usage asked (Refused why file) answer usage = usage
 answer-usage asked (Refuted edge what trace to) answer usage = usage
 answer-usage asked Simulated answer usage = usage
+answer-usage asked (WrongDescription code place file) answer usage = usage
+answer-usage asked (Described map_text) answer usage = usage
 answer-usage asked (WrongTrace why line file) answer usage = usage
 answer-usage asked (Agrees edges) answer usage = usage
 answer-usage asked (Differs edge what) answer usage = usage
@@ -44,6 +48,8 @@ answer-tells asked Usage failed answer none = none
 answer-tells asked (Refused why file) failed answer none = none
 answer-tells asked (Refuted edge what trace to) failed answer none = none
 answer-tells asked Simulated failed answer none = none
+answer-tells asked (WrongDescription code place file) failed answer none = none
+answer-tells asked (Described map_text) failed answer none = none
 answer-tells asked (WrongTrace why line file) failed answer none = none
 answer-tells asked (Agrees edges) failed answer none = none
 answer-tells asked (Differs edge what) failed answer none = none
@@ -54,6 +60,8 @@ answer-rose asked Usage P answer = tt
 answer-rose asked (Refused why file) P answer = tt
 answer-rose asked (Refuted edge what trace to) P answer = tt
 answer-rose asked Simulated P answer = tt
+answer-rose asked (WrongDescription code place file) P answer = tt
+answer-rose asked (Described map_text) P answer = tt
 answer-rose asked (WrongTrace why line file) P answer = tt
 answer-rose asked (Agrees edges) P answer = tt
 answer-rose asked (Differs edge what) P answer = tt
@@ -72,6 +80,8 @@ answer-file asked Usage name answer is = cc
 answer-file asked (Refused why file) name answer is = cc
 answer-file asked (Refuted edge what trace to) name answer is = sym answer ∙ is
 answer-file asked Simulated name answer is = cc
+answer-file asked (WrongDescription code place file) name answer is = cc
+answer-file asked (Described map_text) name answer is = cc
 answer-file asked (WrongTrace why line file) name answer is = cc
 answer-file asked (Agrees edges) name answer is = cc
 answer-file asked (Differs edge what) name answer is = cc
@@ -110,7 +120,7 @@ plan-answer (Some files) r words command task is answered h =
     let Q : Option Task → Type 0 = λ t. IfOk r (λ report. UnlessFault report (AskedAnswer files t report)) in
     subst P (sym is) (subst Q (sym answered) h)
 
-answer-files : (files : Files) (task : Task) (got : Result (List (List ℕ)) Shortfall) (report : Report) → gathered files (wanted_of task) ≡ got → FilesAnswer task got report → TaskAnswer files task report
+answer-files : (files : Files) (task : BlockTask) (got : Result (List (List ℕ)) Shortfall) (report : Report) → gathered files (wanted_of task) ≡ got → FilesAnswer task got report → TaskAnswer files (tasks.Block task) report
 answer-files files task got report is h = let P : Result (List (List ℕ)) Shortfall → Type 0 = λ g. FilesAnswer task g report in subst P (sym is) h
 
 any-answer : (report : Report) (A : Type 0) → A → UnlessFault report A
@@ -119,31 +129,53 @@ any-answer (Refused why file) A a = a
 any-answer (WrongTrace why line file) A a = a
 any-answer (Refuted edge what trace to) A a = a
 any-answer Simulated A a = a
+any-answer (WrongDescription code place file) A a = a
+any-answer (Described map_text) A a = a
 any-answer (Agrees edges) A a = a
 any-answer (Differs edge what) A a = a
 any-answer (Fault store file) A a = tt
 
 -- the answer to gathered files, and to files that lack something
-pub texts-answer : {E : Type 0} (told : Option Files) (task : Task) (asked : List Wanted) (texts : List (List ℕ)) (r : Result Report E) → asked ≡ wanted_of task
+pub texts-answer : {E : Type 0} (told : Option Files) (task : BlockTask) (asked : List Wanted) (texts : List (List ℕ)) (r : Result Report E) → asked ≡ wanted_of task
     → IfSome told (λ files. gathered files asked ≡ Ok texts) → IfOk r (TextsAnswer task texts)
-    → IfSome told (λ files. IfOk r (λ report. UnlessFault report (TaskAnswer files task report)))
+    → IfSome told (λ files. IfOk r (λ report. UnlessFault report (TaskAnswer files (tasks.Block task) report)))
 texts-answer None task asked texts r same is h = tt
 texts-answer (Some files) task asked texts (Ok report) same is h =
-    any-answer report (TaskAnswer files task report) (answer-files files task (Ok texts) report (sym (ap (gathered files) same) ∙ is) h)
+    any-answer report (TaskAnswer files (tasks.Block task) report) (answer-files files task (Ok texts) report (sym (ap (gathered files) same) ∙ is) h)
 texts-answer (Some files) task asked texts (Err e) same is h = tt
 
-pub short-answer : (told : Option Files) (task : Task) (asked : List Wanted) (short : Shortfall) (report : Report) → asked ≡ wanted_of task
+pub short-answer : (told : Option Files) (task : BlockTask) (asked : List Wanted) (short : Shortfall) (report : Report) → asked ≡ wanted_of task
     → IfSome told (λ files. gathered files asked ≡ Err short) → report ≡ short_report short
-    → IfSome told (λ files. UnlessFault report (TaskAnswer files task report))
+    → IfSome told (λ files. UnlessFault report (TaskAnswer files (tasks.Block task) report))
 short-answer None task asked short report same is h = tt
 short-answer (Some files) task asked short report same is h =
-    any-answer report (TaskAnswer files task report) (answer-files files task (Err short) report (sym (ap (gathered files) same) ∙ is) h)
+    any-answer report (TaskAnswer files (tasks.Block task) report) (answer-files files task (Err short) report (sym (ap (gathered files) same) ∙ is) h)
+
+-- the same of a description
+gathered-files : (files : Files) (rdl : List ℕ) (got : Result (List (List ℕ)) Shortfall) (report : Report) → gathered files (description_wanted rdl) ≡ got → GatheredAnswer rdl got report
+    → TaskAnswer files (tasks.Describe rdl) report
+gathered-files files rdl got report is h = let P : Result (List (List ℕ)) Shortfall → Type 0 = λ g. GatheredAnswer rdl g report in subst P (sym is) h
+
+pub description-answer : {E : Type 0} (told : Option Files) (rdl : List ℕ) (asked : List Wanted) (texts : List (List ℕ)) (r : Result Report E) → asked ≡ description_wanted rdl
+    → IfSome told (λ files. gathered files asked ≡ Ok texts) → IfOk r (λ report. DescriptionAnswer rdl (text_at texts 0) report)
+    → IfSome told (λ files. IfOk r (λ report. UnlessFault report (TaskAnswer files (tasks.Describe rdl) report)))
+description-answer None rdl asked texts r same is h = tt
+description-answer (Some files) rdl asked texts (Ok report) same is h =
+    any-answer report (TaskAnswer files (tasks.Describe rdl) report) (gathered-files files rdl (Ok texts) report (sym (ap (gathered files) same) ∙ is) h)
+description-answer (Some files) rdl asked texts (Err e) same is h = tt
+
+pub no-description : (told : Option Files) (rdl : List ℕ) (asked : List Wanted) (short : Shortfall) (report : Report) → asked ≡ description_wanted rdl
+    → IfSome told (λ files. gathered files asked ≡ Err short) → report ≡ short_report short
+    → IfSome told (λ files. UnlessFault report (TaskAnswer files (tasks.Describe rdl) report))
+no-description None rdl asked short report same is h = tt
+no-description (Some files) rdl asked short report same is h =
+    any-answer report (TaskAnswer files (tasks.Describe rdl) report) (gathered-files files rdl (Err short) report (sym (ap (gathered files) same) ∙ is) h)
 
 -- the texts of a task, by their places
 text-is : (files : List (Vec ℕ Global)) (place : ℕ) (file : Vec ℕ Global) → place < length files → file ≡ get_or files place file → file.items ≡ text_at (contents files) place
 text-is files place file below is = ap (λ (v : Vec ℕ Global). v.items) is ∙ sym (get_or-map (λ (v : Vec ℕ Global). v.items) files place file [] below)
 
-pub sample-texts : {E : Type 0} (task : Task) (texts : List (List ℕ)) (seed : ℕ) (rdl ports verilog : List ℕ) (r : Result Report E) → task.work ≡ work.Sample seed
+pub sample-texts : {E : Type 0} (task : BlockTask) (texts : List (List ℕ)) (seed : ℕ) (rdl ports verilog : List ℕ) (r : Result Report E) → task.work ≡ work.Sample seed
     → rdl ≡ text_at texts 0 → ports ≡ text_at texts 1 → verilog ≡ text_at texts 2
     → IfOk r (λ report. report ≡ sample_report task seed (block_of rdl ports verilog)) → IfOk r (TextsAnswer task texts)
 sample-texts task texts seed rdl ports verilog (Err e) is a b d h = tt
@@ -154,7 +186,7 @@ sample-texts task texts seed rdl ports verilog (Ok report) is a b d h =
     ∙ ap (λ t. sample_report task seed (block_of (text_at texts 0) (text_at texts 1) t)) d in
     subst P (sym is) all
 
-pub replay-texts : {E : Type 0} (task : Task) (texts : List (List ℕ)) (trace text rdl ports verilog : List ℕ) (r : Result Report E) → task.work ≡ work.Replay trace
+pub replay-texts : {E : Type 0} (task : BlockTask) (texts : List (List ℕ)) (trace text rdl ports verilog : List ℕ) (r : Result Report E) → task.work ≡ work.Replay trace
     → text ≡ text_at texts 0 → rdl ≡ text_at texts 1 → ports ≡ text_at texts 2 → verilog ≡ text_at texts 3
     → IfOk r (λ report. ReplayAnswer task trace text (block_of rdl ports verilog) report) → IfOk r (TextsAnswer task texts)
 replay-texts task texts trace text rdl ports verilog (Err e) is a b d f h = tt
@@ -170,10 +202,10 @@ pub file-text : (files : List (Vec ℕ Global)) (place : ℕ) (file : Vec ℕ Gl
     → bytes ≡ text_at (contents files) place
 file-text files place file bytes same below is = same ∙ text-is files place file below is
 
-pub task-files : (task : Task) (seed : ℕ) → task.work ≡ work.Sample seed → length (wanted_of task) ≡ 3
+pub task-files : (task : BlockTask) (seed : ℕ) → task.work ≡ work.Sample seed → length (wanted_of task) ≡ 3
 task-files task seed is = ap (λ w. length (wanted_for w (block_wanted task))) is
 
-pub trace-files : (task : Task) (trace : List ℕ) → task.work ≡ work.Replay trace → length (wanted_of task) ≡ 4
+pub trace-files : (task : BlockTask) (trace : List ℕ) → task.work ≡ work.Replay trace → length (wanted_of task) ≡ 4
 trace-files task trace is = ap (λ w. length (wanted_for w (block_wanted task))) is
 
 -- what a reading of a trace text tells of its report

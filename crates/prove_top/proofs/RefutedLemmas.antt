@@ -24,7 +24,9 @@ use Rattle.prove_top.specs.declared.report.Status.{Status}
 use Rattle.prove_top.specs.declared.report.Status.TheVariants as status
 use Rattle.prove_top.specs.declared.sampled.TheConstants.{EDGES, REGISTER_BITS, CHOICE_BITS}
 use Rattle.prove_top.specs.declared.words.Command.{Command}
+use Rattle.prove_top.specs.declared.words.BlockTask.{BlockTask}
 use Rattle.prove_top.specs.declared.words.Task.{Task}
+use Rattle.prove_top.specs.declared.words.Task.TheVariants as tasks
 use Rattle.prove_top.specs.declared.words.Work.{Work}
 use Rattle.prove_top.specs.declared.words.Work.TheVariants as work
 use Rattle.prove_top.specs.Answer.{CommandAnswer, AskedAnswer, FilesAnswer, WorkAnswer, sample_report, block_of, run_report, difference_report, text_at, wanted_of}
@@ -35,7 +37,7 @@ use Rattle.prove_top.specs.Ends.{PutsAnswer, UnlessFailed}
 use Rattle.prove_top.specs.Gather.{gathered}
 use Rattle.prove_top.specs.Report.{file_of, refuted_line, run_trace, text_of}
 use Rattle.prove_top.specs.Sampled.{choice_at, choices_to, sample_bits, sampled_register, sampled_wires, sampled, sampled_trace}
-use Rattle.prove_top.specs.Words.{command_of, task_of, trace_file}
+use Rattle.prove_top.specs.Words.{command_of, task_of, trace_file, trace_file_of}
 
 -- the drawn choices fit the pins, and the drawn register its bits
 taken-below : (width : ℕ) (bits : List Bool) → number_of (take width bits) < 2 ^ width
@@ -80,31 +82,32 @@ cut-legal law block seed register run edge difference begins wires found =
     subst P (sym begins) (subst Q (sym wires) (sampled-ends law block seed edge difference first).legal)
 
 -- the report of a sampled run
-sampled-of-block : (task : Task) (seed : ℕ) (made : Result Block Kind) (report : Report) (block : Block) (other : ℕ) → report ≡ sample_report task seed made
+sampled-of-block : (task : BlockTask) (seed : ℕ) (made : Result Block Kind) (report : Report) (block : Block) (other : ℕ) → report ≡ sample_report task seed made
     → with_block seed made ≡ Some (block, other) → report ≡ run_report block other task.trace_file
 sampled-of-block task seed (Err kind) report block other h is = cc
 sampled-of-block task seed (Ok made) report block other h is =
     let pair : ◌≡◌ {A = Block × ℕ} (made, seed) (block, other) = cc in
     h ∙ ap (λ p. run_report p.0 p.1 task.trace_file) pair
 
-sampled-of-work : (task : Task) (texts : List (List ℕ)) (does : Work) (report : Report) (block : Block) (seed : ℕ) → WorkAnswer task texts does report
+sampled-of-work : (task : BlockTask) (texts : List (List ℕ)) (does : Work) (report : Report) (block : Block) (seed : ℕ) → WorkAnswer task texts does report
     → sample_block does texts ≡ Some (block, seed) → report ≡ run_report block seed task.trace_file
 sampled-of-work task texts (work.Sample drawn) report block seed h is = sampled-of-block task drawn (block_of (text_at texts 0) (text_at texts 1) (text_at texts 2)) report block seed h is
 sampled-of-work task texts (work.Replay trace) report block seed h is = cc
 
-sampled-of-files : (task : Task) (files : Result (List (List ℕ)) Shortfall) (report : Report) (block : Block) (seed : ℕ) → FilesAnswer task files report
+sampled-of-files : (task : BlockTask) (files : Result (List (List ℕ)) Shortfall) (report : Report) (block : Block) (seed : ℕ) → FilesAnswer task files report
     → of_texts sample_block task files ≡ Some (block, seed) → report ≡ run_report block seed task.trace_file
 sampled-of-files task (Err lacks) report block seed h is = cc
 sampled-of-files task (Ok texts) report block seed h is = sampled-of-work task texts task.work report block seed h is
 
 sampled-of-asked : (files : Files) (task : Option Task) (report : Report) (block : Block) (seed : ℕ) → AskedAnswer files task report
-    → of_task sample_block files task ≡ Some (block, seed) → report ≡ run_report block seed (option_and_then (λ t. t.trace_file) task)
+    → of_task sample_block files task ≡ Some (block, seed) → report ≡ run_report block seed (option_and_then trace_file_of task)
 sampled-of-asked files None report block seed h is = cc
-sampled-of-asked files (Some task) report block seed h is = sampled-of-files task (gathered files (wanted_of task)) report block seed h is
+sampled-of-asked files (Some (tasks.Block task)) report block seed h is = sampled-of-files task (gathered files (wanted_of task)) report block seed h is
+sampled-of-asked files (Some (tasks.Describe rdl)) report block seed h is = cc
 
 sampled-of-command : (files : Files) (command : Option Command) (report : Report) (block : Block) (seed : ℕ) → CommandAnswer files command report
     → of_task sample_block files (option_and_then task_of command) ≡ Some (block, seed)
-    → report ≡ run_report block seed (option_and_then (λ t. t.trace_file) (option_and_then task_of command))
+    → report ≡ run_report block seed (option_and_then trace_file_of (option_and_then task_of command))
 sampled-of-command files None report block seed h is = cc
 sampled-of-command files (Some command) report block seed h is = sampled-of-asked files (task_of command) report block seed h is
 

@@ -12,10 +12,10 @@ use Rattle.tool_edge.specs.declared.depot.DepotAnswer.TheVariants as answered
 use Rattle.trace_replay.specs.declared.block.Block.{Block}
 use Rattle.trace_replay.specs.declared.joint.Difference.{Difference}
 use Rattle.prove_top.specs.declared.report.Report.{Report}
-use Rattle.prove_top.specs.declared.report.Report.TheVariants.{Usage, Refused, WrongTrace, Refuted, Simulated, Agrees, Differs, Fault}
+use Rattle.prove_top.specs.declared.report.Report.TheVariants.{Usage, Refused, WrongTrace, WrongDescription, Described, Refuted, Simulated, Agrees, Differs, Fault}
 use Rattle.prove_top.specs.declared.report.Status.{Status}
 use Rattle.prove_top.specs.declared.report.Status.TheVariants as status
-use Rattle.prove_top.specs.Answer.{Answers, AskedAnswer, CommandAnswer, ComesAfter, FilesAnswer, ReplayAnswer, TellsFailed, UnlessFault, WorkAnswer, block_of, difference_report, names_asked, run_report, sample_report, short_report, text_at, wanted_of}
+use Rattle.prove_top.specs.Answer.{GatheredAnswer, description_wanted, Answers, AskedAnswer, CommandAnswer, ComesAfter, FilesAnswer, ReplayAnswer, TellsFailed, UnlessFault, WorkAnswer, block_of, difference_report, names_asked, run_report, sample_report, short_report, text_at, wanted_of}
 use Rattle.prove_top.specs.Asked.{asked_block, of_task, of_texts, sample_block, with_block}
 use Rattle.prove_top.specs.Gather.{gathered}
 use Rattle.std.specs.Option.{option_and_then}
@@ -23,7 +23,9 @@ use Rattle.prove_top.specs.declared.gather.Kind.{Kind}
 use Rattle.prove_top.specs.declared.gather.Shortfall.{Shortfall}
 use Rattle.prove_top.specs.declared.gather.Shortfall.TheVariants.{Missing, Long}
 use Rattle.prove_top.specs.declared.words.Command.{Command}
+use Rattle.prove_top.specs.declared.words.BlockTask.{BlockTask}
 use Rattle.prove_top.specs.declared.words.Task.{Task}
+use Rattle.prove_top.specs.declared.words.Task.TheVariants as tasks
 use Rattle.prove_top.specs.declared.words.Work.{Work}
 use Rattle.prove_top.specs.declared.words.Work.TheVariants as work
 use Rattle.prove_top.specs.Clauses.{Added, FilesEnd, OthersKept, StoreAfterReads, WholeButTheLast}
@@ -133,15 +135,15 @@ module _ (edge : ℕ) (what : Difference) (trace : List ℕ) (to : Option (List 
   abbrev IsCut : Block × ℕ → Type 0
   IsCut a = (sampled a.0 a.1 ≡ Some (edge, what)) × (trace ≡ sampled_trace a.0 a.1 edge)
 
-  cut-of-block : (task : Task) (seed : ℕ) (made : Result Block Kind) → Refuted edge what trace to ≡ sample_report task seed made → IsSomeAnd (with_block seed made) IsCut
+  cut-of-block : (task : BlockTask) (seed : ℕ) (made : Result Block Kind) → Refuted edge what trace to ≡ sample_report task seed made → IsSomeAnd (with_block seed made) IsCut
   cut-of-block task seed (Err kind) h = cc
   cut-of-block task seed (Ok block) h = refuted-run block seed task.trace_file edge what trace to h
 
-  cut-of-replay : (task : Task) (name text : List ℕ) (made : Result Block Kind) (Q : Type 0) → ReplayAnswer task name text made (Refuted edge what trace to) → Q
+  cut-of-replay : (task : BlockTask) (name text : List ℕ) (made : Result Block Kind) (Q : Type 0) → ReplayAnswer task name text made (Refuted edge what trace to) → Q
   cut-of-replay task name text (Err kind) Q h = cc
   cut-of-replay task name text (Ok block) Q h = absurd h
 
-  cut-of-work : (task : Task) (texts : List (List ℕ)) (does : Work) → WorkAnswer task texts does (Refuted edge what trace to) → IsSomeAnd (sample_block does texts) IsCut
+  cut-of-work : (task : BlockTask) (texts : List (List ℕ)) (does : Work) → WorkAnswer task texts does (Refuted edge what trace to) → IsSomeAnd (sample_block does texts) IsCut
   cut-of-work task texts (work.Sample seed) h = cut-of-block task seed (block_of (text_at texts 0) (text_at texts 1) (text_at texts 2)) h
   cut-of-work task texts (work.Replay name) h =
       cut-of-replay task name (text_at texts 0) (block_of (text_at texts 1) (text_at texts 2) (text_at texts 3)) (IsSomeAnd (sample_block (work.Replay name) texts) IsCut) h
@@ -150,13 +152,18 @@ module _ (edge : ℕ) (what : Difference) (trace : List ℕ) (to : Option (List 
   other-short (Missing name) Q h = cc
   other-short (Long kind name) Q h = cc
 
-  cut-of-files : (task : Task) (got : Result (List (List ℕ)) Shortfall) → FilesAnswer task got (Refuted edge what trace to) → IsSomeAnd (of_texts sample_block task got) IsCut
+  cut-of-files : (task : BlockTask) (got : Result (List (List ℕ)) Shortfall) → FilesAnswer task got (Refuted edge what trace to) → IsSomeAnd (of_texts sample_block task got) IsCut
   cut-of-files task (Err short) h = other-short short (IsSomeAnd (of_texts sample_block task (Err short)) IsCut) h
   cut-of-files task (Ok texts) h = cut-of-work task texts task.work h
 
+  cut-of-gathered : (rdl : List ℕ) (got : Result (List (List ℕ)) Shortfall) (Q : Type 0) → GatheredAnswer rdl got (Refuted edge what trace to) → Q
+  cut-of-gathered rdl (Err short) Q h = other-short short Q h
+  cut-of-gathered rdl (Ok texts) Q h = absurd h
+
   cut-of-asked : (files : Files) (task : Option Task) → AskedAnswer files task (Refuted edge what trace to) → IsSomeAnd (of_task sample_block files task) IsCut
   cut-of-asked files None h = cc
-  cut-of-asked files (Some task) h = cut-of-files task (gathered files (wanted_of task)) h
+  cut-of-asked files (Some (tasks.Block task)) h = cut-of-files task (gathered files (wanted_of task)) h
+  cut-of-asked files (Some (tasks.Describe rdl)) h = cut-of-gathered rdl (gathered files (description_wanted rdl)) ⊥ h
 
   cut-of-command : (files : Files) (command : Option Command) → CommandAnswer files command (Refuted edge what trace to)
       → IsSomeAnd (of_task sample_block files (option_and_then task_of command)) IsCut
@@ -180,6 +187,8 @@ trace-due files words Usage name answer asked is = no-file name _ is
 trace-due files words (Refused why file) name answer asked is = no-file name _ is
 trace-due files words (WrongTrace why line file) name answer asked is = no-file name _ is
 trace-due files words Simulated name answer asked is = no-file name _ is
+trace-due files words (WrongDescription code place file) name answer asked is = no-file name _ is
+trace-due files words (Described map_text) name answer asked is = no-file name _ is
 trace-due files words (Agrees edges) name answer asked is = no-file name _ is
 trace-due files words (Differs edge what) name answer asked is = no-file name _ is
 trace-due files words (Fault store file) name answer asked is = no-file name _ is
@@ -191,6 +200,8 @@ due-answered files words Usage name answer asked is = no-file name _ is
 due-answered files words (Refused why file) name answer asked is = no-file name _ is
 due-answered files words (WrongTrace why line file) name answer asked is = no-file name _ is
 due-answered files words Simulated name answer asked is = no-file name _ is
+due-answered files words (WrongDescription code place file) name answer asked is = no-file name _ is
+due-answered files words (Described map_text) name answer asked is = no-file name _ is
 due-answered files words (Agrees edges) name answer asked is = no-file name _ is
 due-answered files words (Differs edge what) name answer asked is = no-file name _ is
 due-answered files words (Fault store file) name answer asked is = no-file name _ is
@@ -341,6 +352,8 @@ other-file (Refused why file) other = refl
 other-file (WrongTrace why line file) other = refl
 other-file (Refuted edge what trace to) other = absurd (other refl)
 other-file Simulated other = refl
+other-file (WrongDescription code place file) other = refl
+other-file (Described map_text) other = refl
 other-file (Agrees edges) other = refl
 other-file (Differs edge what) other = refl
 other-file (Fault store file) other = refl

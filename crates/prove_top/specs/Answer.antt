@@ -12,6 +12,8 @@ use Rattle.trace_replay.specs.LegalTrace.{IsLegalTrace}
 use Rattle.trace_replay.specs.Reading.{IsRefusedAt}
 use Rattle.trace_replay.specs.Trace.{trace_difference}
 use Rattle.trace_replay.specs.TraceText.{trace_text}
+use Rattle.rdl_report.specs.Described as descriptions
+use Rattle.rdl_report.specs.Described.{IsMapText}
 use Rattle.prove_top.specs.declared.gather.Kind.{Kind}
 use Rattle.prove_top.specs.declared.gather.Kind.TheVariants.{Description, Ports, Verilog, Trace}
 use Rattle.prove_top.specs.declared.gather.Wanted.{Wanted}
@@ -21,10 +23,12 @@ use Rattle.prove_top.specs.declared.plan.TheConstants.{DESCRIPTION_LIMIT, PORTS_
 use Rattle.prove_top.specs.declared.report.Refusal.{Refusal}
 use Rattle.prove_top.specs.declared.report.Refusal.TheVariants.{RdlSize, VlogSize, PortSize, TraceSize, NoFile, NotYet}
 use Rattle.prove_top.specs.declared.report.Report.{Report}
-use Rattle.prove_top.specs.declared.report.Report.TheVariants.{Usage, Refused, WrongTrace, Refuted, Simulated, Agrees, Differs, Fault}
+use Rattle.prove_top.specs.declared.report.Report.TheVariants.{Usage, Refused, WrongTrace, WrongDescription, Described, Refuted, Simulated, Agrees, Differs, Fault}
 use Rattle.prove_top.specs.declared.verilog.Drivers.{Drivers}
 use Rattle.prove_top.specs.declared.words.Command.{Command}
+use Rattle.prove_top.specs.declared.words.BlockTask.{BlockTask}
 use Rattle.prove_top.specs.declared.words.Task.{Task}
+use Rattle.prove_top.specs.declared.words.Task.TheVariants as tasks
 use Rattle.prove_top.specs.declared.words.Work.{Work}
 use Rattle.prove_top.specs.declared.words.Work.TheVariants as work
 use Rattle.prove_top.specs.Description.{reset_of}
@@ -37,7 +41,7 @@ use Rattle.prove_top.specs.Verilog.{drivers_of}
 use Rattle.prove_top.specs.Words.{command_of, task_of, task_asked}
 
 -- the files of a task, in the order of its words
-abbrev pub block_wanted : Task → List Wanted
+abbrev pub block_wanted : BlockTask → List Wanted
 block_wanted task =
     record { name = task.rdl; limit = DESCRIPTION_LIMIT; kind = Description }
     ∷ record { name = task.ports; limit = PORTS_LIMIT; kind = Ports }
@@ -47,8 +51,16 @@ abbrev pub wanted_for : Work → List Wanted → List Wanted
 wanted_for (work.Sample seed) wanted = wanted
 wanted_for (work.Replay trace) wanted = record { name = trace; limit = TRACE_FILE_LIMIT; kind = Trace } ∷ wanted
 
-abbrev pub wanted_of : Task → List Wanted
+abbrev pub wanted_of : BlockTask → List Wanted
 wanted_of task = wanted_for task.work (block_wanted task)
+
+-- the file of a description, and the files of a task
+abbrev pub description_wanted : List ℕ → List Wanted
+description_wanted rdl = record { name = rdl; limit = DESCRIPTION_LIMIT; kind = Description } ∷ []
+
+abbrev pub wanted_files : Task → List Wanted
+wanted_files (tasks.Block task) = wanted_of task
+wanted_files (tasks.Describe rdl) = description_wanted rdl
 
 -- what the files lack, as a refusal
 abbrev pub size_refusal : Kind → Refusal
@@ -65,7 +77,7 @@ abbrev pub trace_name : Work → List ℕ → List ℕ
 trace_name (work.Sample seed) other = other
 trace_name (work.Replay trace) other = trace
 
-abbrev pub name_of : Task → Kind → List ℕ
+abbrev pub name_of : BlockTask → Kind → List ℕ
 name_of task Description = task.rdl
 name_of task Ports = task.ports
 name_of task Verilog = task.verilog
@@ -90,7 +102,7 @@ difference_report block seed to (Some first) = Refuted first.0 first.1 (sampled_
 unfoldable pub run_report : Block → ℕ → Option (List ℕ) → Report
 run_report block seed to = difference_report block seed to (sampled block seed)
 
-abbrev pub sample_report : Task → ℕ → Result Block Kind → Report
+abbrev pub sample_report : BlockTask → ℕ → Result Block Kind → Report
 sample_report task seed (Ok block) = run_report block seed task.trace_file
 sample_report task seed (Err kind) = Refused NotYet (name_of task kind)
 
@@ -119,9 +131,11 @@ Replays block name text (Refused NotYet file) = ⊥
 Replays block name text Usage = ⊥
 Replays block name text (Refuted edge what trace to) = ⊥
 Replays block name text Simulated = ⊥
+Replays block name text (WrongDescription code place file) = ⊥
+Replays block name text (Described map_text) = ⊥
 Replays block name text (Fault store file) = ⊥
 
-abbrev pub ReplayAnswer : Task → List ℕ → List ℕ → Result Block Kind → Report → Type 0
+abbrev pub ReplayAnswer : BlockTask → List ℕ → List ℕ → Result Block Kind → Report → Type 0
 ReplayAnswer task trace text (Ok block) report = Replays block trace text report
 ReplayAnswer task trace text (Err kind) report = report ≡ Refused NotYet (name_of task kind)
 
@@ -140,20 +154,38 @@ trace_report count (Some first) = Differs first.0 first.1
 abbrev pub text_at : List (List ℕ) → ℕ → List ℕ
 text_at texts place = slice_index_or texts place []
 
-abbrev pub WorkAnswer : Task → List (List ℕ) → Work → Report → Type 0
+abbrev pub WorkAnswer : BlockTask → List (List ℕ) → Work → Report → Type 0
 WorkAnswer task texts (work.Sample seed) report = report ≡ sample_report task seed (block_of (text_at texts 0) (text_at texts 1) (text_at texts 2))
 WorkAnswer task texts (work.Replay trace) report = ReplayAnswer task trace (text_at texts 0) (block_of (text_at texts 1) (text_at texts 2) (text_at texts 3)) report
 
-abbrev pub TextsAnswer : Task → List (List ℕ) → Report → Type 0
+abbrev pub TextsAnswer : BlockTask → List (List ℕ) → Report → Type 0
 TextsAnswer task texts report = WorkAnswer task texts task.work report
 
 -- the report of a task on the told files
-abbrev pub FilesAnswer : Task → Result (List (List ℕ)) Shortfall → Report → Type 0
+abbrev pub FilesAnswer : BlockTask → Result (List (List ℕ)) Shortfall → Report → Type 0
 FilesAnswer task (Err short) report = report ≡ short_report short
 FilesAnswer task (Ok texts) report = TextsAnswer task texts report
 
+-- the report of a description: the lines of its register map, or what refuses it and where
+abbrev pub DescriptionAnswer : List ℕ → List ℕ → Report → Type 0
+DescriptionAnswer name bytes (Described text) = IsMapText bytes text
+DescriptionAnswer name bytes (WrongDescription code place file) = (file ≡ name) × descriptions.IsRefusedAt bytes code place
+DescriptionAnswer name bytes Usage = ⊥
+DescriptionAnswer name bytes (Refused why file) = ⊥
+DescriptionAnswer name bytes (WrongTrace why line file) = ⊥
+DescriptionAnswer name bytes (Refuted edge what trace to) = ⊥
+DescriptionAnswer name bytes Simulated = ⊥
+DescriptionAnswer name bytes (Agrees edges) = ⊥
+DescriptionAnswer name bytes (Differs edge what) = ⊥
+DescriptionAnswer name bytes (Fault store file) = ⊥
+
+abbrev pub GatheredAnswer : List ℕ → Result (List (List ℕ)) Shortfall → Report → Type 0
+GatheredAnswer name (Err short) report = report ≡ short_report short
+GatheredAnswer name (Ok texts) report = DescriptionAnswer name (text_at texts 0) report
+
 abbrev pub TaskAnswer : Files → Task → Report → Type 0
-TaskAnswer files task report = FilesAnswer task (gathered files (wanted_of task)) report
+TaskAnswer files (tasks.Block task) report = FilesAnswer task (gathered files (wanted_of task)) report
+TaskAnswer files (tasks.Describe rdl) report = GatheredAnswer rdl (gathered files (description_wanted rdl)) report
 
 -- the report of the words
 abbrev pub AskedAnswer : Files → Option Task → Report → Type 0
@@ -170,7 +202,7 @@ Answers files words report = CommandAnswer files (command_of words) report
 -- the names that the words ask for
 abbrev pub task_names : Option Task → List (List ℕ)
 task_names None = []
-task_names (Some task) = names_of (wanted_of task)
+task_names (Some task) = names_of (wanted_files task)
 
 abbrev pub names_asked : List (List ℕ) → List (List ℕ)
 names_asked words = task_names (task_asked words)
@@ -182,6 +214,8 @@ IsUsage (Refused why file) = ⊥
 IsUsage (WrongTrace why line file) = ⊥
 IsUsage (Refuted edge what trace to) = ⊥
 IsUsage Simulated = ⊥
+IsUsage (WrongDescription code place file) = ⊥
+IsUsage (Described map_text) = ⊥
 IsUsage (Agrees edges) = ⊥
 IsUsage (Differs edge what) = ⊥
 IsUsage (Fault store file) = ⊥
@@ -193,6 +227,8 @@ IsAnswer to (Refused why file) = ⊤
 IsAnswer to (WrongTrace why line file) = ⊤
 IsAnswer to (Refuted edge what trace file) = file ≡ to
 IsAnswer to Simulated = ⊤
+IsAnswer to (WrongDescription code place file) = ⊤
+IsAnswer to (Described map_text) = ⊤
 IsAnswer to (Agrees edges) = ⊤
 IsAnswer to (Differs edge what) = ⊤
 IsAnswer to (Fault store file) = ⊥
@@ -204,6 +240,8 @@ IfFault (Refused why file) P = ⊤
 IfFault (WrongTrace why line file) P = ⊤
 IfFault (Refuted edge what trace to) P = ⊤
 IfFault Simulated P = ⊤
+IfFault (WrongDescription code place file) P = ⊤
+IfFault (Described map_text) P = ⊤
 IfFault (Agrees edges) P = ⊤
 IfFault (Differs edge what) P = ⊤
 
@@ -214,6 +252,8 @@ UnlessFault (Refused why file) P = P
 UnlessFault (WrongTrace why line file) P = P
 UnlessFault (Refuted edge what trace to) P = P
 UnlessFault Simulated P = P
+UnlessFault (WrongDescription code place file) P = P
+UnlessFault (Described map_text) P = P
 UnlessFault (Agrees edges) P = P
 UnlessFault (Differs edge what) P = P
 
@@ -225,6 +265,8 @@ TellsFailed (Refused why file) failed = failed ≡ None
 TellsFailed (WrongTrace why line file) failed = failed ≡ None
 TellsFailed (Refuted edge what trace to) failed = failed ≡ None
 TellsFailed Simulated failed = failed ≡ None
+TellsFailed (WrongDescription code place file) failed = failed ≡ None
+TellsFailed (Described map_text) failed = failed ≡ None
 TellsFailed (Agrees edges) failed = failed ≡ None
 TellsFailed (Differs edge what) failed = failed ≡ None
 

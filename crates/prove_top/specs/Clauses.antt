@@ -6,6 +6,7 @@ use Rattle.tool_edge.specs.Calls.{after_calls}
 use Rattle.tool_edge.specs.Written.{after_put, AppendsPart}
 use Rattle.tool_edge.specs.declared.depot.DepotCall.{DepotCall}
 use Rattle.tool_edge.specs.declared.depot.DepotAnswer.TheVariants as answered
+use Rattle.rdl_report.specs.Described.{IsMapText}
 use Rattle.trace_replay.specs.declared.block.Block.{Block}
 use Rattle.prove_top.specs.declared.report.Report.{Report}
 use Rattle.prove_top.specs.declared.report.Report.TheVariants.{Agrees, Differs, Fault}
@@ -21,7 +22,7 @@ use Rattle.trace_replay.specs.TraceText.{trace_text}
 use Rattle.prove_top.specs.Report.{text_of, refuted_line}
 use Rattle.prove_top.specs.Sampled.{sampled, sampled_trace}
 use Rattle.prove_top.specs.Words.{trace_file}
-use Rattle.prove_top.specs.Asked.{asked_block, asked_replay}
+use Rattle.prove_top.specs.Asked.{asked_block, asked_description, asked_replay}
 use Rattle.prove_top.specs.Store.{TraceDue}
 
 -- what was added to a told list of calls, of which P holds
@@ -94,6 +95,10 @@ ReplayDiffers files words = IsSomeAnd (asked_replay files words) (λ asked. (fir
 abbrev pub ReplayAgrees : Files → List (List ℕ) → Type 0
 ReplayAgrees files words = IsSomeAnd (asked_replay files words) (λ asked. (count : ℕ) × ReplaysTo asked.0 asked.1 None count)
 
+-- the description has a register map
+abbrev pub DescriptionHasMap : Files → List (List ℕ) → Type 0
+DescriptionHasMap files words = IsSomeAnd (asked_description files words) (λ bytes. (text : List ℕ) × IsMapText bytes text)
+
 -- the line of the sampled run's difference is put, and its trace, cut after that edge, is written
 pub record RefutedWritten (files : Files) (words : List (List ℕ)) (after : Option Files) (old new : Option (List ℕ)) : Type 0 where
   pub block : Block
@@ -135,3 +140,11 @@ pub record PutsAgrees (files : Files) (words : List (List ℕ)) (old new : Optio
   pub edges : ℕ
   pub run : ReplaysTo block text None edges
   pub put : new ≡ after_put old (text_of (Agrees edges))
+
+-- the lines of the register map of the description are put
+pub record PutsMap (files : Files) (words : List (List ℕ)) (old new : Option (List ℕ)) : Type 0 where
+  pub bytes : List ℕ
+  pub text : List ℕ
+  pub asked : asked_description files words ≡ Some bytes
+  pub map : IsMapText bytes text
+  pub put : new ≡ after_put old text

@@ -1,6 +1,9 @@
 -- What a command reports: a status and a line (this project's own).
 use Rattle.std.specs.Prelude.{ℕ, Bool, if◌then◌else◌, Option, Some, None, List, [], ◌∷◌, ◌++◌, codes}
 use Rattle.std.specs.Fmt.{decimal}
+use Rattle.bit_base.specs.declared.place.Place.{Place}
+use Rattle.rdl_tree.specs.declared.fault.RdlCode.{RdlCode}
+use Rattle.rdl_tree.specs.declared.fault.RdlCode.TheVariants as rdl
 use Rattle.trace_replay.specs.declared.fault.TraceCode.{TraceCode}
 use Rattle.trace_replay.specs.declared.fault.TraceCode.TheVariants as code
 use Rattle.trace_replay.specs.declared.joint.Difference.{Difference}
@@ -31,6 +34,8 @@ status_of (report.Refuted edge what trace file) = status.No
 status_of (report.Agrees edges) = status.Yes
 status_of (report.Differs edge what) = status.No
 status_of report.Simulated = status.Unknown
+status_of (report.WrongDescription code place file) = status.Refused
+status_of (report.Described map_text) = status.Yes
 status_of (report.Fault store file) = status.Fault
 
 -- a refusal of a file: its code, the file at 0:0, and its name
@@ -83,6 +88,35 @@ code_tail code.TraceSize = codes ":1 TraceSize"
 abbrev pub wrong_line : TraceCode → ℕ → List ℕ → List ℕ
 wrong_line why line file = code_head why ++ (file ++ codes ":" ++ decimal line) ++ code_tail why
 
+-- a refusal of a description: its code, the file, the place, and its name
+abbrev pub rdl_head : RdlCode → List ℕ
+rdl_head rdl.RdlByte = codes "refused 101 "
+rdl_head rdl.RdlSyntax = codes "refused 102 "
+rdl_head rdl.RdlDeep = codes "refused 103 "
+rdl_head rdl.RdlName = codes "refused 104 "
+rdl_head rdl.RdlProperty = codes "refused 105 "
+rdl_head rdl.RdlValue = codes "refused 106 "
+rdl_head rdl.RdlPlace = codes "refused 107 "
+rdl_head rdl.RdlSize = codes "refused 108 "
+rdl_head rdl.NoReset = codes "refused 109 "
+
+abbrev pub rdl_tail : RdlCode → List ℕ
+rdl_tail rdl.RdlByte = codes " RdlByte"
+rdl_tail rdl.RdlSyntax = codes " RdlSyntax"
+rdl_tail rdl.RdlDeep = codes " RdlDeep"
+rdl_tail rdl.RdlName = codes " RdlName"
+rdl_tail rdl.RdlProperty = codes " RdlProperty"
+rdl_tail rdl.RdlValue = codes " RdlValue"
+rdl_tail rdl.RdlPlace = codes " RdlPlace"
+rdl_tail rdl.RdlSize = codes " RdlSize"
+rdl_tail rdl.NoReset = codes " NoReset"
+
+abbrev pub place_text : Place → List ℕ
+place_text place = codes ":" ++ decimal place.line ++ (codes ":" ++ decimal place.column ++ [])
+
+abbrev pub description_line : RdlCode → Place → List ℕ → List ℕ
+description_line why place file = rdl_head why ++ (file ++ place_text place ++ []) ++ rdl_tail why
+
 -- the line of a call of the depot that failed, before the file's name
 abbrev pub fault_head : Bool → List ℕ
 fault_head store = if store then codes "fault store " else codes "fault read "
@@ -96,10 +130,17 @@ line_of (report.Refuted edge what trace file) = refuted_line edge what
 line_of (report.Agrees edges) = agrees_line edges
 line_of (report.Differs edge what) = differs_line edge what
 line_of report.Simulated = codes "unknown simulated"
+line_of (report.WrongDescription why place file) = description_line why place file
+line_of (report.Described map_text) = map_text
 line_of (report.Fault store file) = fault_head store ++ file ++ []
 
+-- each line of a register map has its line feed already
+abbrev pub line_end : Report → List ℕ
+line_end (report.Described map_text) = []
+line_end _ = 10 ∷ []
+
 abbrev pub heading_of : Report → List ℕ
-heading_of said = line_of said ++ 10 ∷ []
+heading_of said = line_of said ++ line_end said
 
 -- the trace text that follows the line, where there is one and it has no file of its own
 abbrev pub following : Option (List ℕ) → List ℕ → List ℕ
@@ -114,6 +155,8 @@ trace_of (report.Refuted edge what trace file) = following file trace
 trace_of (report.Agrees edges) = []
 trace_of (report.Differs edge what) = []
 trace_of report.Simulated = []
+trace_of (report.WrongDescription code place file) = []
+trace_of (report.Described map_text) = []
 trace_of (report.Fault store file) = []
 
 -- the file that a report has for its trace, and that trace
@@ -125,6 +168,8 @@ file_of (report.Refuted edge what trace file) = file
 file_of (report.Agrees edges) = None
 file_of (report.Differs edge what) = None
 file_of report.Simulated = None
+file_of (report.WrongDescription code place file) = None
+file_of (report.Described map_text) = None
 file_of (report.Fault store file) = None
 
 abbrev pub run_trace : Report → List ℕ
@@ -135,6 +180,8 @@ run_trace (report.Refuted edge what trace file) = trace
 run_trace (report.Agrees edges) = []
 run_trace (report.Differs edge what) = []
 run_trace report.Simulated = []
+run_trace (report.WrongDescription code place file) = []
+run_trace (report.Described map_text) = []
 run_trace (report.Fault store file) = []
 
 unfoldable pub text_of : Report → List ℕ

@@ -9,6 +9,7 @@ use Rattle.prove_top.specs.declared.words.Command.TheVariants.{Prove, Check, Rep
 use Rattle.prove_top.specs.declared.words.FileNames.{FileNames}
 use Rattle.prove_top.specs.declared.words.Options.{Options}
 use Rattle.prove_top.specs.declared.words.Task.{Task}
+use Rattle.prove_top.specs.declared.words.Task.TheVariants as tasks
 use Rattle.prove_top.specs.declared.words.Work.TheVariants as work
 use Rattle.prove_top.specs.declared.words.TheConstants.{OTHERS_LIMIT, BOUND_LIMIT, BUDGET_LIMIT}
 
@@ -125,23 +126,35 @@ command_of (verb ∷ rest) =
     else None
 
 -- what is answered so far: `prove` with no option but a seed and a file for the trace, and `replay`, each
--- with one Verilog file
+-- with one Verilog file; and `map`
 abbrev pub is_plain : Options → Bool
 is_plain options = is_none options.bound && is_none options.budget && is_none options.cert
 
 abbrev pub task_of : Command → Option Task
 task_of (Prove names options) =
     if names.others == 0 && is_plain options
-    then Some (record { rdl = names.rdl; ports = names.ports; verilog = names.verilog; work = work.Sample (unwrap_or options.seed 1); trace_file = options.trace }) else None
+    then Some (tasks.Block (record { rdl = names.rdl; ports = names.ports; verilog = names.verilog; work = work.Sample (unwrap_or options.seed 1); trace_file = options.trace })) else None
 task_of (Replay trace names) =
-    if names.others == 0 then Some (record { rdl = names.rdl; ports = names.ports; verilog = names.verilog; work = work.Replay trace; trace_file = None }) else None
+    if names.others == 0 then Some (tasks.Block (record { rdl = names.rdl; ports = names.ports; verilog = names.verilog; work = work.Replay trace; trace_file = None })) else None
 task_of (Check cert names) = None
-task_of (Map rdl) = None
+task_of (Map rdl) = Some (tasks.Describe rdl)
 task_of (Sample number) = None
 
 abbrev pub task_asked : List (List ℕ) → Option Task
 task_asked words = option_and_then task_of (command_of words)
 
 -- the file that the words name for the trace of a difference
+abbrev pub trace_file_of : Task → Option (List ℕ)
+trace_file_of (tasks.Block task) = task.trace_file
+trace_file_of (tasks.Describe rdl) = None
+
 abbrev pub trace_file : List (List ℕ) → Option (List ℕ)
-trace_file words = option_and_then (λ task. task.trace_file) (task_asked words)
+trace_file words = option_and_then trace_file_of (task_asked words)
+
+-- the description that `map` is asked for
+abbrev pub description_of : Task → Option (List ℕ)
+description_of (tasks.Block task) = None
+description_of (tasks.Describe rdl) = Some rdl
+
+abbrev pub description_asked : List (List ℕ) → Option (List ℕ)
+description_asked words = option_and_then description_of (task_asked words)

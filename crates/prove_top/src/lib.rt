@@ -2,6 +2,7 @@
 #![tactic(auto)]
 
 mod cursor;
+mod describe;
 mod description;
 mod draws;
 mod expressions;

@@ -13,12 +13,13 @@ ghost use Rattle.prove_top.specs.Reads.{ReadsOnly};
 ghost use Rattle.prove_top.specs.Allowed.{MayCome, MayTask};
 ghost use Rattle.prove_top.specs.Answer.{block_wanted, wanted_of, short_report, trace_name, name_of, block_of, names_asked, sample_report, wrong_report, trace_report, Replays, ReplayAnswer, TextsAnswer, TaskAnswer, Answers, UnlessFault, IfFault, ComesAfter, IsUsage, IsAnswer, run_report};
 
+use crate::describe::describe_report;
 use crate::description::reset_of;
 use crate::gather::{Halt, Kind, Shortfall, Wanted, fetch_all};
 use crate::report::{Refusal, Report};
 use crate::sampled::{Run, sampled_run};
 use crate::verilog::drivers_of;
-use crate::words::{Task, Work, command_of, task_of};
+use crate::words::{BlockTask, Task, Work, command_of, task_of};
 use bit_base::text::{Text, text_of};
 use std::alloc::{AllocError, Global};
 use std::convert::From;
@@ -48,7 +49,7 @@ pub(crate) const PORTS: &[u8] =
     b"clock clk\nreset rst_n low 1\npsel psel\npenable penable\npwrite pwrite\npaddr paddr\npwdata pwdata\nprdata prdata\npready pready\npslverr pslverr\nwait 0\nunmapped zero\n\nout c.v v\n";
 
 /// The files of a task's block.
-fn block_wanted(alloc: Global, task: &Task) -> Result<Vec<Wanted>, AllocError>
+fn block_wanted(alloc: Global, task: &BlockTask) -> Result<Vec<Wanted>, AllocError>
     ensures { IfOk result (λ wanted. wanted.items ≡ block_wanted task.now) }
 {
     let description = Wanted {
@@ -74,7 +75,7 @@ fn block_wanted(alloc: Global, task: &Task) -> Result<Vec<Wanted>, AllocError>
 }
 
 /// The files of a task, in the order of its words: a trace comes first.
-fn wanted_of(alloc: Global, task: &Task) -> Result<Vec<Wanted>, AllocError>
+fn wanted_of(alloc: Global, task: &BlockTask) -> Result<Vec<Wanted>, AllocError>
     ensures { IfOk result (λ wanted. wanted.items ≡ wanted_of task.now) }
 {
     let mut wanted = block_wanted(alloc, task)?;
@@ -93,7 +94,7 @@ fn wanted_of(alloc: Global, task: &Task) -> Result<Vec<Wanted>, AllocError>
 }
 
 /// The report of what the files lack.
-fn short_report(short: Shortfall) -> Report
+pub(crate) fn short_report(short: Shortfall) -> Report
     ensures { result ≡ short_report short }
 {
     match short {
@@ -116,7 +117,7 @@ fn trace_name<'a>(work: &'a Work, other: &'a Text) -> &'a Text
 }
 
 /// The name of a task's file of this kind.
-fn name_of(task: &Task, kind: Kind) -> &Text
+fn name_of(task: &BlockTask, kind: Kind) -> &Text
     ensures { result.now ≡ name_of task.now kind }
 {
     match kind {
@@ -196,7 +197,7 @@ fn run_report(
 /// The report of a sampled run on three texts.
 fn sample_report(
     alloc: Global,
-    task: &Task,
+    task: &BlockTask,
     seed: u64,
     rdl: &[u8],
     ports: &[u8],
@@ -261,7 +262,7 @@ fn replay_report(
 /// The report of a trace on four texts.
 fn replay_answer(
     alloc: Global,
-    task: &Task,
+    task: &BlockTask,
     name: &Text,
     text: &[u8],
     rdl: &[u8],
@@ -279,7 +280,7 @@ fn replay_answer(
 }
 
 /// The report of a task on its texts.
-fn texts_report(alloc: Global, task: &Task, files: &[Vec<u8>]) -> Result<Report, AllocError>
+fn texts_report(alloc: Global, task: &BlockTask, files: &[Vec<u8>]) -> Result<Report, AllocError>
     requires { length files.now ≡ length (wanted_of task.now) }
     ensures report { IfOk result (λ report. TextsAnswer task.now (contents files.now) report) }
     ensures kind { IfOk result (IsAnswer task.now.trace_file) }
@@ -293,11 +294,15 @@ fn texts_report(alloc: Global, task: &Task, files: &[Vec<u8>]) -> Result<Report,
 }
 
 /// The report of a task: its files are fetched, and answered.
-fn work_report<D: Depot>(alloc: Global, task: &Task, depot: &mut D) -> Result<Report, AllocError>
+fn work_report<D: Depot>(
+    alloc: Global,
+    task: &BlockTask,
+    depot: &mut D,
+) -> Result<Report, AllocError>
     ensures files { D.files depot.new ≡ D.files depot.old }
-    ensures answer { IfSome (D.files depot.old) (λ files. IfOk result (λ report. UnlessFault report (TaskAnswer files task.now report))) }
+    ensures answer { IfSome (D.files depot.old) (λ files. IfOk result (λ report. UnlessFault report (TaskAnswer files (Task.Block task.now) report))) }
     ensures usage { IfOk result (λ report. IsUsage report → ⊥) }
-    ensures command { IfOk result (λ report. MayTask (Some task.now) report) }
+    ensures command { IfOk result (λ report. MayTask (Some (Task.Block task.now)) report) }
     ensures calls { ReadsOnly (names_of (wanted_of task.now)) (D.calls depot.old) (D.calls depot.new) (λ added. IfOk result (λ report. ComesAfter (names_of (wanted_of task.now)) task.now.trace_file report added)) }
     ensures count { D.faults depot.old ≤ D.faults depot.new }
     ensures rose { IfOk result (λ report. IfFault report (Rose (D.faults depot.old) (D.faults depot.new))) }
@@ -333,7 +338,8 @@ pub(crate) fn plan<D: Depot>(
     };
     let task = task_of(command);
     match task {
-        Some(task) => work_report(alloc, &task, depot),
+        Some(Task::Block(task)) => work_report(alloc, &task, depot),
+        Some(Task::Describe(rdl)) => describe_report(alloc, &rdl, depot),
         None => Ok(Report::Refused(Refusal::NotYet, text_of(alloc, b"words".as_slice())?)),
     }
 }

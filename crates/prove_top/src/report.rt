@@ -2,9 +2,11 @@
 
 ghost use Rattle.std.specs.Option.{option_copied};
 ghost use Rattle.std.specs.Prelude.{◌≡◌, ◌++◌, IfOk};
-ghost use Rattle.prove_top.specs.Report.{status_number, status_of, heading_of, trace_of, file_of, run_trace, line_of, fault_head, refusal_head, refusal_tail, difference_text, refuted_line, agrees_line, differs_line, wrong_line, code_head, code_tail};
+ghost use Rattle.prove_top.specs.Report.{status_number, status_of, heading_of, line_end, rdl_head, rdl_tail, place_text, description_line, trace_of, file_of, run_trace, line_of, fault_head, refusal_head, refusal_tail, difference_text, refuted_line, agrees_line, differs_line, wrong_line, code_head, code_tail};
 
+use bit_base::place::Place;
 use bit_base::text::Text;
+use rdl_tree::fault::RdlCode;
 use std::alloc::{AllocError, Global};
 use std::vec::Vec;
 use trace_replay::fault::TraceCode;
@@ -53,16 +55,19 @@ pub(crate) enum Refusal {
 
 /// What a command reports; `Refuted` has the edge, the difference, the text of the trace and the name of
 /// the file for it, `Agrees` the number of edges of a trace, `WrongTrace` why, where and which trace is
-/// refused, and `Fault` the call of the depot that failed.
+/// refused, `WrongDescription` why, where and which description is refused, `Described` the lines of a
+/// register map, each with its line feed, and `Fault` the call of the depot that failed.
 #[derive(Drop)]
 pub(crate) enum Report {
     Usage,
     Refused(Refusal, Text),
     WrongTrace(TraceCode, u32, Text),
+    WrongDescription(RdlCode, Place, Text),
     Refuted(usize, Difference, Text, Option<Text>),
     Simulated,
     Agrees(usize),
     Differs(usize, Difference),
+    Described(Text),
     Fault { store: bool, file: Text },
 }
 
@@ -73,21 +78,33 @@ impl Report {
     {
         match self {
             Report::Usage => Status::Usage,
-            Report::Refused(_, _) | Report::WrongTrace(_, _, _) => Status::Refused,
+            Report::Refused(_, _)
+            | Report::WrongTrace(_, _, _)
+            | Report::WrongDescription(_, _, _) => Status::Refused,
             Report::Refuted(_, _, _, _) | Report::Differs(_, _) => Status::No,
-            Report::Agrees(_) => Status::Yes,
+            Report::Agrees(_) | Report::Described(_) => Status::Yes,
             Report::Simulated => Status::Unknown,
             Report::Fault { store: _, file: _ } => Status::Fault,
         }
     }
 
-    /// Its line and a line feed.
+    /// Its line or lines, each with its line feed.
     pub fn heading(&self, alloc: Global) -> Result<Vec<u8>, AllocError>
         ensures { IfOk result (λ text. text.items ≡ heading_of self.now) }
     {
         let mut text = self.line(alloc)?;
-        text.push(b'\n')?;
+        text.extend_from_slice(self.line_end())?;
         Ok(text)
+    }
+
+    /// What ends its line: the lines of a register map have their line feeds.
+    fn line_end(&self) -> &'static [u8]
+        ensures { result.now ≡ line_end self.now }
+    {
+        match self {
+            Report::Described(_) => b"".as_slice(),
+            _ => b"\n".as_slice(),
+        }
     }
 
     /// The trace text that follows, empty where there is none or where it has a file of its own.
@@ -140,9 +157,16 @@ impl Report {
                 *line,
                 file.as_bytes(),
             ),
+            Report::WrongDescription(code, place, file) => description_line(
+                alloc,
+                *code,
+                place,
+                file.as_bytes(),
+            ),
             Report::Refuted(edge, difference, _, _) => refuted_line(alloc, *edge, *difference),
             Report::Agrees(edges) => agrees_line(alloc, *edges),
             Report::Differs(edge, difference) => differs_line(alloc, *edge, *difference),
+            Report::Described(lines) => lines.as_bytes().to_vec(alloc),
             Report::Simulated => b"unknown simulated".as_slice().to_vec(alloc),
             Report::Fault { store, file } => joined(
                 alloc,
@@ -283,6 +307,63 @@ fn wrong_line(alloc: Global, code: TraceCode, line: u32, file: &[u8]) -> Result<
     let number = line.to_string(alloc)?;
     let place = joined(alloc, file, b":".as_slice(), number.as_bytes())?;
     joined(alloc, code_head(code), &place, code_tail(code))
+}
+
+/// The number of a refusal of a description, and its name.
+fn rdl_head(code: RdlCode) -> &'static [u8]
+    ensures { result.now ≡ rdl_head code }
+{
+    match code {
+        RdlCode::RdlByte => b"refused 101 ".as_slice(),
+        RdlCode::RdlSyntax => b"refused 102 ".as_slice(),
+        RdlCode::RdlDeep => b"refused 103 ".as_slice(),
+        RdlCode::RdlName => b"refused 104 ".as_slice(),
+        RdlCode::RdlProperty => b"refused 105 ".as_slice(),
+        RdlCode::RdlValue => b"refused 106 ".as_slice(),
+        RdlCode::RdlPlace => b"refused 107 ".as_slice(),
+        RdlCode::RdlSize => b"refused 108 ".as_slice(),
+        RdlCode::NoReset => b"refused 109 ".as_slice(),
+    }
+}
+
+fn rdl_tail(code: RdlCode) -> &'static [u8]
+    ensures { result.now ≡ rdl_tail code }
+{
+    match code {
+        RdlCode::RdlByte => b" RdlByte".as_slice(),
+        RdlCode::RdlSyntax => b" RdlSyntax".as_slice(),
+        RdlCode::RdlDeep => b" RdlDeep".as_slice(),
+        RdlCode::RdlName => b" RdlName".as_slice(),
+        RdlCode::RdlProperty => b" RdlProperty".as_slice(),
+        RdlCode::RdlValue => b" RdlValue".as_slice(),
+        RdlCode::RdlPlace => b" RdlPlace".as_slice(),
+        RdlCode::RdlSize => b" RdlSize".as_slice(),
+        RdlCode::NoReset => b" NoReset".as_slice(),
+    }
+}
+
+/// A place in a file, behind the file's name.
+fn place_text(alloc: Global, place: &Place) -> Result<Vec<u8>, AllocError>
+    ensures { IfOk result (λ text. text.items ≡ place_text place.now) }
+{
+    let line = place.line.to_string(alloc)?;
+    let column = place.column.to_string(alloc)?;
+    let behind = joined(alloc, b":".as_slice(), column.as_bytes(), b"".as_slice())?;
+    joined(alloc, b":".as_slice(), line.as_bytes(), &behind)
+}
+
+/// The line of a description that is refused at a place.
+fn description_line(
+    alloc: Global,
+    code: RdlCode,
+    place: &Place,
+    file: &[u8],
+) -> Result<Vec<u8>, AllocError>
+    ensures { IfOk result (λ text. text.items ≡ description_line code place.now file.now) }
+{
+    let place = place_text(alloc, place)?;
+    let middle = joined(alloc, file, &place, b"".as_slice())?;
+    joined(alloc, rdl_head(code), &middle, rdl_tail(code))
 }
 
 /// The line of want of memory.

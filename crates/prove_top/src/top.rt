@@ -5,13 +5,13 @@ ghost use Rattle.tool_edge.specs.Causes.{Rose};
 ghost use Rattle.tool_edge.specs.Written.{after_put, AppendsPart};
 ghost use Rattle.prove_top.specs.Allowed.{MayCome, PutsAllowed};
 ghost use Rattle.prove_top.specs.Answer.{IfFault, IsUsage, TellsFailed, UnlessFault, names_asked, size_refusal};
-ghost use Rattle.prove_top.specs.Clauses.{Added, FilesEnd, IsFaultOrMemory, OthersKept, PutsAgrees, PutsDiffers, PutsFault, PutsPart, PutsPartThenMemory, RefutedReplays, RefutedWritten, ReplayAgrees, ReplayDiffers, SampledAgrees, SampledDiffers, StoreAfterReads, WholeButTheLast};
+ghost use Rattle.prove_top.specs.Clauses.{Added, DescriptionHasMap, PutsMap, FilesEnd, IsFaultOrMemory, OthersKept, PutsAgrees, PutsDiffers, PutsFault, PutsPart, PutsPartThenMemory, RefutedReplays, RefutedWritten, ReplayAgrees, ReplayDiffers, SampledAgrees, SampledDiffers, StoreAfterReads, WholeButTheLast};
 ghost use Rattle.prove_top.specs.Ends.{Ends, EndsPut, PutsAnswer, Runs, UnlessFailed, UnlessStores};
 ghost use Rattle.prove_top.specs.Reads.{AreCalls, Called, failed_of};
 ghost use Rattle.prove_top.specs.Store.{Kept, Settles};
-ghost use Rattle.prove_top.specs.Refusals.{IsNotYet, IsTraceRefused, PutsIff, PutsRefusal, lacking, replayed};
+ghost use Rattle.prove_top.specs.Refusals.{IsNotYet, IsRefusal, IsTraceRefused, PutsIff, PutsRefusal, lacking, replayed};
 ghost use Rattle.prove_top.specs.Report.{status_of, text_of, trace_of};
-ghost use Rattle.prove_top.specs.Words.{command_of, trace_file};
+ghost use Rattle.prove_top.specs.Words.{command_of, description_asked, trace_file};
 ghost use Rattle.prove_top.specs.declared.gather.Kind.{Kind};
 ghost use Rattle.prove_top.specs.declared.gather.Shortfall.{Shortfall};
 ghost use Rattle.trace_replay.specs.declared.fault.TraceCode.{TraceCode};
@@ -20,6 +20,8 @@ use crate::plan::plan;
 use crate::report::{MEMORY_LINE, Refusal, Report, Status};
 use crate::store::store_trace;
 use bit_base::text::Text;
+use map_report::law::reports_begin_with_addresses;
+use rdl_report::law::one_answer;
 use std::alloc::{AllocError, Global};
 use tool_edge::depot::Depot;
 use tool_edge::sink::{Sink, SinkFault};
@@ -153,23 +155,28 @@ pub fn run_tool<D: Depot, S: Sink>(
     // When each of these statuses comes.
     ensures usage_iff { UnlessFailed result.status ((result.status ≡ Status.Usage) ↔ (command_of words.now ≡ None)) }
     ensures simulated_iff { IfSome (D.files depot.old) (λ files. UnlessFailed result.status ((result.status ≡ Status.Unknown) ↔ SampledAgrees files words.now)) }
-    ensures agrees_iff { IfSome (D.files depot.old) (λ files. UnlessFailed result.status ((result.status ≡ Status.Yes) ↔ ReplayAgrees files words.now)) }
+    ensures agrees_iff { IfSome (D.files depot.old) (λ files. description_asked words.now ≡ None → UnlessFailed result.status ((result.status ≡ Status.Yes) ↔ ReplayAgrees files words.now)) }
+    ensures map_iff { IfSome (D.files depot.old) (λ files. IsSome (description_asked words.now) → UnlessFailed result.status ((result.status ≡ Status.Yes) ↔ DescriptionHasMap files words.now)) }
     ensures refuted_sampled_iff { IfSome (D.files depot.old) (λ files. replayed words.now ≡ None → UnlessFailed result.status ((result.status ≡ Status.No) ↔ SampledDiffers files words.now)) }
     ensures differs_iff { IfSome (D.files depot.old) (λ files. IsSome (replayed words.now) → UnlessFailed result.status ((result.status ≡ Status.No) ↔ ReplayDiffers files words.now)) }
 
-    // The line of `replay` has the edge and the difference, or the number of edges.
+    // The line of `replay` has the edge and the difference, or the number of edges; those of `map` are the
+    // register map of the description, field by field.
     ensures differs_report { IfSome (D.files depot.old) (λ files. result.status ≡ Status.No → IsSome (replayed words.now) → PutsDiffers files words.now (S.written out.old) (S.written out.new)) }
-    ensures agrees_report { IfSome (D.files depot.old) (λ files. result.status ≡ Status.Yes → PutsAgrees files words.now (S.written out.old) (S.written out.new)) }
+    ensures agrees_report { IfSome (D.files depot.old) (λ files. result.status ≡ Status.Yes → description_asked words.now ≡ None → PutsAgrees files words.now (S.written out.old) (S.written out.new)) }
+    ensures map_report { IfSome (D.files depot.old) (λ files. result.status ≡ Status.Yes → IsSome (description_asked words.now) → PutsMap files words.now (S.written out.old) (S.written out.new)) }
 
     // The usage line alone is put for words outside the grammar, with no call.
     ensures usage_report { result.status ≡ Status.Usage → (S.written out.new ≡ after_put (S.written out.old) (text_of Report.Usage)) × (D.calls depot.new ≡ D.calls depot.old) }
 
     // Each refusal is put exactly where it is due: a file that isn't there or is too long, words or a file
-    // that aren't answered yet, a trace that is refused; and status 3 comes with one of these.
+    // that aren't answered yet, a trace or a description that is refused; and status 3 comes with one of
+    // these.
     ensures no_file_iff { IfSome (D.files depot.old) (λ files. (file : List ℕ) → PutsIff (S.written out.old) (S.written out.new) result.status (Report.Refused Refusal.NoFile file) (lacking files words.now ≡ Some (Shortfall.Missing file))) }
-    ensures long_file_iff { IfSome (D.files depot.old) (λ files. (kind : Kind) (file : List ℕ) → PutsIff (S.written out.old) (S.written out.new) result.status (Report.Refused (size_refusal kind) file) (lacking files words.now ≡ Some (Shortfall.Long kind file))) }
+    ensures long_file_iff { IfSome (D.files depot.old) (λ files. (kind : Kind) (file : List ℕ) → (kind ≡ Kind.Description → description_asked words.now ≡ None) → PutsIff (S.written out.old) (S.written out.new) result.status (Report.Refused (size_refusal kind) file) (lacking files words.now ≡ Some (Shortfall.Long kind file))) }
     ensures not_yet_iff { IfSome (D.files depot.old) (λ files. (file : List ℕ) → PutsIff (S.written out.old) (S.written out.new) result.status (Report.Refused Refusal.NotYet file) (IsNotYet files words.now file)) }
     ensures refused_iff { IfSome (D.files depot.old) (λ files. (code : TraceCode) (line : ℕ) (file : List ℕ) → code ≢ TraceCode.TraceSize → line < 2 ^ 64 → replayed words.now ≡ Some file → PutsIff (S.written out.old) (S.written out.new) result.status (Report.WrongTrace code line file) (IsTraceRefused files words.now code line)) }
+    ensures refusal_put { IfSome (D.files depot.old) (λ files. (due : Report) → IsRefusal files words.now due → UnlessFailed result.status ((result.status ≡ Status.Refused) × (S.written out.new ≡ after_put (S.written out.old) (text_of due)))) }
     ensures refused_report { IfSome (D.files depot.old) (λ files. UnlessFailed result.status ((result.status ≡ Status.Refused) ↔ PutsRefusal files words.now (S.written out.old) (S.written out.new))) }
 
     // The trace of a refuted line follows it, or under `--trace` is stored and the line stands alone; and
@@ -183,6 +190,8 @@ pub fn run_tool<D: Depot, S: Sink>(
 {
     run_ends_there();
     one_reading();
+    one_answer();
+    reports_begin_with_addresses();
     let status = run(alloc, words, depot, out);
     Ended {
         status,

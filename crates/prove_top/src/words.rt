@@ -54,15 +54,22 @@ pub(crate) enum Work {
     Replay(Text),
 }
 
-/// A command that is answered: the names of the three files of its block, what is done with it, and the
-/// name of the file that the trace of a difference is stored in.
+/// A command on a block that is answered: the names of its three files, what is done with it, and the name
+/// of the file that the trace of a difference is stored in.
 #[derive(Drop)]
-pub(crate) struct Task {
+pub(crate) struct BlockTask {
     pub rdl: Text,
     pub ports: Text,
     pub verilog: Text,
     pub work: Work,
     pub trace_file: Option<Text>,
+}
+
+/// A command that is answered: on a block, or the register map of the description of this name.
+#[derive(Drop)]
+pub(crate) enum Task {
+    Block(BlockTask),
+    Describe(Text),
 }
 
 /// Whether this byte may stand in a name.
@@ -387,26 +394,27 @@ pub(crate) fn task_of(command: Command) -> Option<Task>
             if names.others > 0 || !is_plain(&options) {
                 return None;
             }
-            Some(Task {
+            Some(Task::Block(BlockTask {
                 rdl: names.rdl,
                 ports: names.ports,
                 verilog: names.verilog,
                 work: Work::Sample(options.seed.unwrap_or(1)),
                 trace_file: options.trace,
-            })
+            }))
         }
         Command::Replay(trace, names) => {
             if names.others > 0 {
                 return None;
             }
-            Some(Task {
+            Some(Task::Block(BlockTask {
                 rdl: names.rdl,
                 ports: names.ports,
                 verilog: names.verilog,
                 work: Work::Replay(trace),
                 trace_file: None,
-            })
+            }))
         }
+        Command::Map(rdl) => Some(Task::Describe(rdl)),
         _ => None,
     }
 }

@@ -324,10 +324,16 @@ fn each_row_has_its_answer(rt: HostRuntime) -> Result<(), Fail> {
             Status::Refused,
             "refused 801 words:0:0 NotYet\n",
         ),
+        ("map a.rdl", Status::Yes, "00000000 c.v [7:0] RW 00\n"),
         (
-            "map a.rdl",
+            "map g.rdl",
             Status::Refused,
-            "refused 801 words:0:0 NotYet\n",
+            "refused 701 g.rdl:0:0 NoFile\n",
+        ),
+        (
+            "map a.ports",
+            Status::Refused,
+            "refused 102 a.ports:2:1 RdlSyntax\n",
         ),
         (
             "sample 0",

@@ -1,0 +1,4 @@
+pub mod Digits
+pub mod Laws
+pub mod Names
+pub mod Reports

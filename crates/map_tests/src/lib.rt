@@ -1,0 +1,5 @@
+//! Tests of `map`: descriptions as data, each with the status and the text that are due.
+#![tactic(auto)]
+
+#[cfg(test)]
+mod descriptions;
