@@ -11,7 +11,7 @@ use Rattle.flat_loops.proofs.SortLemmas.{count_within}
 use Rattle.flat_loops.proofs.FeedLemmas.{inside, one_item}
 use Rattle.flat_cycles.specs.declared.visit.Visit.{Visit}
 use Rattle.flat_cycles.specs.Visits.{AreVisits, AreComing, IsDone, AreDone, HasGrown, IsWay}
-use Rattle.flat_cycles.specs.Rounds.{IsRound, IsShut}
+use Rattle.flat_cycles.specs.Rounds.{IsRound, IsShut, StandOnce}
 
 in_none : (n i : ℕ) → in_table (replicate n false) i ≡ false
 in_none zero i = refl
@@ -25,10 +25,11 @@ none_visited graph first n seen visits s v = subst (λ t. AreVisits graph first 
   found = λ i on. absurd (cc (sym (in_none n i) ∙ on));
   listed = λ p v at. absurd (cc at);
   counted = sym (none_true n);
+  once = λ p q v u at there same. absurd (cc at);
 }))
 
 pub coming : (graph : Graph) (first : ℕ) (seen : List Bool) (visits view : List Visit) → view ≡ visits → AreVisits graph first seen visits → AreComing graph first view
-coming graph first seen visits view same are = subst (AreComing graph first) (sym same) (record { from = are.from; high = are.high })
+coming graph first seen visits view same are = subst (AreComing graph first) (sym same) (record { from = are.from; high = are.high; once = are.once })
 
 pub few : (graph : Graph) (first : ℕ) (seen : List Bool) (visits : List Visit) → AreVisits graph first seen visits → length visits ≤ length seen
 few graph first seen visits are = let c : length visits ≡ count_of_true seen = are.counted in let w : count_of_true seen ≤ length seen = count_within seen in omega arith
@@ -75,7 +76,8 @@ round_is graph first visits place node u way round at is back w made = record {
   is = made;
   loop = subst (IsLoop graph) (sym made) (w.leads_on u first at (subst (λ n. leads graph n first ≡ true) (sym is) back));
   from = w.high;
+  once = subst StandOnce (sym made) w.once;
 }
 
 pub own_round : (graph : Graph) (first : ℕ) (round : List ℕ) → round ≡ first ∷ [] → leads graph first first ≡ true → IsRound graph first round
-own_round graph first round made back = record { rest = []; is = made; loop = subst (IsLoop graph) (sym made) back; from = tt }
+own_round graph first round made back = record { rest = []; is = made; loop = subst (IsLoop graph) (sym made) back; from = tt; once = subst StandOnce (sym made) (refl, tt) }

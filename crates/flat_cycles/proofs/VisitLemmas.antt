@@ -77,7 +77,7 @@ source_from graph first visits p source node (Some q) is h on = (is.0, (is.1.0, 
 pub visits_more : (graph : Graph) (first source node : ℕ) (from : Option ℕ) (seen seen' : List Bool) (visits visits' : List Visit) → AreVisits graph first seen visits → IsSource first visits source from → leads graph source node ≡ true → first < node → node < length seen → in_table seen node ≡ false
     → seen' ≡ slice_set seen node true → visits' ≡ visits ++ record { node = node; from = from } ∷ [] → AreVisits graph first seen' visits'
 visits_more graph first source node from seen seen' visits visits' are is on high low off marked more =
-    subst (λ t. AreVisits graph first t visits') (sym marked) (subst (λ l. AreVisits graph first (slice_set seen node true) l) (sym more) (record { from = comes; high = above; found = found; listed = listed; counted = counted })) where
+    subst (λ t. AreVisits graph first t visits') (sym marked) (subst (λ l. AreVisits graph first (slice_set seen node true) l) (sym more) (record { from = comes; high = above; found = found; listed = listed; counted = counted; once = single })) where
       w : Visit
       w = record { node = node; from = from }
 
@@ -112,6 +112,14 @@ visits_more graph first source node from seen seen' visits visits' are is on hig
           let l : length (visits ++ record { node = node; from = from } ∷ []) ≡ length visits + 1 = length-append visits (record { node = node; from = from } ∷ []) in
           let c : length visits ≡ count_of_true seen = are.counted in
           omega arith
+
+      single : (p q : ℕ) (v u : Visit) → slice_get (visits ++ record { node = node; from = from } ∷ []) p ≡ Some v → slice_get (visits ++ record { node = node; from = from } ∷ []) q ≡ Some u → v.node ≡ u.node → p ≡ q
+      single p q v u at there same = by (split_end visits (record { node = node; from = from }) p v at) (split_end visits (record { node = node; from = from }) q u there) where
+        by : (slice_get visits p ≡ Some v) ⊎ ((p ≡ length visits) × (v ≡ record { node = node; from = from })) → (slice_get visits q ≡ Some u) ⊎ ((q ≡ length visits) × (u ≡ record { node = node; from = from })) → p ≡ q
+        by (inl a) (inl b) = are.once p q v u a b same
+        by (inl a) (inr f) = absurd (cc (sym off ∙ subst (λ n. in_table seen n ≡ true) (same ∙ ap (λ (w : Visit). w.node) f.1) (are.listed p v a)))
+        by (inr e) (inl b) = absurd (cc (sym off ∙ subst (λ n. in_table seen n ≡ true) (sym same ∙ ap (λ (w : Visit). w.node) e.1) (are.listed q u b)))
+        by (inr e) (inr f) = e.0 ∙ sym f.0
 
 more_bits : (bits : List ℕ) (i : ℕ) → i < length bits → take (i + 1) bits ≡ take i bits ++ slice_index_or bits i 0 ∷ []
 more_bits bits i h = rw (add-one) (take-suc bits i 0 h)

@@ -20,7 +20,7 @@ or_right : (a b : Bool) → b ≡ true → a || b ≡ true
 or_right true b h = refl
 or_right false b h = h
 
-abbrev Listed : List ℕ → Set
+abbrev pub Listed : List ℕ → Set
 Listed bits i = among i bits
 
 more_has : (owners bits : List ℕ) (i n : ℕ) → HasNet owners (Listed bits) n → HasNet owners (Listed (i ∷ bits)) n
@@ -34,11 +34,11 @@ from_more owners bits i n rest (Some m) e k = elim (or_by (m == n) (among n (net
 ]
 
 -- a net in the list has a bit of the list
-from_list : (owners bits : List ℕ) (n : ℕ) → among n (nets_of owners bits) ≡ true → HasNet owners (Listed bits) n
+pub from_list : (owners bits : List ℕ) (n : ℕ) → among n (nets_of owners bits) ≡ true → HasNet owners (Listed bits) n
 from_list owners [] n h = cc
 from_list owners (i ∷ bits) n h = from_more owners bits i n (from_list owners bits n) (slice_get owners i) refl h
 
-to_list : (owners bits : List ℕ) (i n : ℕ) → slice_get owners i ≡ Some n → among i bits ≡ true → among n (nets_of owners bits) ≡ true
+pub to_list : (owners bits : List ℕ) (i n : ℕ) → slice_get owners i ≡ Some n → among i bits ≡ true → among n (nets_of owners bits) ≡ true
 to_list owners [] i n at h = cc
 to_list owners (j ∷ bits) i n at h = elim (or_by (j == i) (among i bits) h) [
   | inl q ↦ here (slice_get owners j) (ap (slice_get owners) (eqb-true j i q) ∙ at)

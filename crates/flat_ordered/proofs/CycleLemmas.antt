@@ -140,6 +140,7 @@ first_cycle nets items graph places b is same best = record {
   there = here.at;
   cycle = is_cycle nets items graph b.round.items is best.round.loop;
   from = best.round.from;
+  once = best.round.once;
   least = λ m js x there cycle from. elim (cases_Bool (is_before (place_of x) (place_of here.from))) [
     | inl on ↦ absurd (excluded m js x there cycle from (inl (ap (is_before (place_of x)) (sym here.is) ∙ on)))
     | inr off ↦ off

@@ -6,6 +6,7 @@ use Rattle.flat_design.specs.declared.item.FlatItem.{FlatItem}
 use Rattle.flat_design.specs.Systems.{place_of}
 use Rattle.flat_orders.specs.Orders.{IsOrder}
 use Rattle.flat_orders.specs.Cycles.{IsCycle, AllFrom}
+use Rattle.flat_cycles.specs.Rounds.{StandOnce}
 use Rattle.flat_loops.specs.declared.sort.Sorting.{Sorting}
 use Rattle.flat_loops.specs.declared.sort.Sorting.TheVariants as S
 
@@ -17,6 +18,7 @@ pub record IsFirstCycle (nets : List Net) (items : List FlatItem) (ks : List ℕ
   pub there : slice_get items first ≡ Some item
   pub cycle : IsCycle nets items ks
   pub from : AllFrom first rest
+  pub once : StandOnce ks
   -- no cycle begins at an earlier place, and none at the same place begins with an earlier item
   pub least : (m : ℕ) (js : List ℕ) (x : FlatItem) → slice_get items m ≡ Some x → IsCycle nets items (m ∷ js) → AllFrom m js → is_before (place_of x) (place_of item) ≡ false
   pub also : (m : ℕ) (js : List ℕ) (x : FlatItem) → slice_get items m ≡ Some x → IsCycle nets items (m ∷ js) → AllFrom m js → is_before (place_of item) (place_of x) ≡ false → first ≤ m

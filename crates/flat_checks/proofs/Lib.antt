@@ -1,0 +1,3 @@
+pub mod Assigning
+pub mod Pushing
+pub mod Answering

@@ -1,0 +1,4 @@
+pub mod Outermost
+pub mod Signalling
+pub mod Readings
+pub mod Whole

@@ -1,0 +1,6 @@
+//! Races between the processes of a flat design.
+#![tactic(auto)]
+
+pub mod assigns;
+pub mod race;
+pub mod readers;

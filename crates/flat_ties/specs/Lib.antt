@@ -1,0 +1,4 @@
+pub mod Shapes
+pub mod Ties
+pub mod Sources
+pub mod Steps
