@@ -1,0 +1,5 @@
+pub mod Alike
+pub mod Sourcing
+pub mod Excluding
+pub mod Making
+pub mod Faults
