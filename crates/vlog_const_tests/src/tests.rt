@@ -198,6 +198,30 @@ localparam e=
   {16{128'd0}};
 localparam e=
   ({128'd0, 1'b0} + 1) | 1;
+localparam e=
+  8'sd1 << 2'b11;
+localparam e=
+  4'sb1000 >>> 8'd2;
+localparam e=
+  4'sb1000 >>> 8'sd2;
+localparam e=
+  4'b1000 >>> 8'sd2;
+localparam e=
+  (4'sb1000 + 8'd0) >>> 1;
+localparam e=
+  4'sb1000 + 8'sd0;
+localparam e=
+  4'sb1000 * 8'd2;
+localparam e=
+  -4'sd8 < 8'd1;
+localparam e=
+  ~4'd5 == 8'd250;
+localparam e=
+  1 ? 4'sb1000 : 8'd0;
+localparam e=
+  !8'sd0 + 4'd3;
+localparam e=
+  {4'sb1000} + 8'sd0;
 endmodule
 ";
 
@@ -292,6 +316,18 @@ VlogConst 7
 VlogWide 3
 2048 bits
 VlogWide 4
+8 8s
+14 4s
+14 4s
+2 4
+4 8
+248 8s
+16 8
+0 1
+1 1
+8 8
+4 4
+8 8
 ";
 
 /// Expressions.
