@@ -3,3 +3,9 @@
 
 #[cfg(test)]
 mod descriptions;
+#[cfg(test)]
+mod fronts;
+#[cfg(test)]
+mod mapped;
+#[cfg(test)]
+mod properties;
