@@ -1,4 +1,4 @@
-use Rattle.std.proofs.Common.{◌+◌, ◌<◌, length, arith}
+use Rattle.std.proofs.Common.{arith}
 use Rattle.machine_map_tests.proofs.TestLemmas.{first_of, front_of, back_of}
 use Rattle.machine_map_tests.proofs.built.event_of.Goals as goal
 
