@@ -29,13 +29,13 @@ fn refused(alloc: Global, code: &str, name: &str, before: &[u8]) -> Result<Strin
     format!(in alloc; "refused {code} a.rdl:{line}:{column} {name}\n")
 }
 
-/// What is due for the first so many bytes of `TWO`: without an item or with the type alone there is no map; half an
+/// What is due for the first bytes of `TWO`: without an item or with the type alone there is no map; half an
 /// arrow is no mark; all other fronts end within an item.
-fn due(alloc: Global, length: usize) -> Result<String, AllocError> {
-    match length {
-        0 | 46 | 47 => refused(alloc, "104", "RdlName", &TWO[..length]),
+fn due(alloc: Global, front: &[u8]) -> Result<String, AllocError> {
+    match front.len() {
+        0 | 46 | 47 => refused(alloc, "104", "RdlName", front),
         85 => refused(alloc, "101", "RdlByte", &TWO[..ARROW]),
-        _ => refused(alloc, "102", "RdlSyntax", &TWO[..length]),
+        _ => refused(alloc, "102", "RdlSyntax", front),
     }
 }
 
@@ -59,7 +59,7 @@ fn a_front_of_two_lines_is_refused_at_its_end(rt: HostRuntime) -> Result<(), Fai
     let alloc = rt.alloc();
     for length in 0..97_usize {
         let (_, put) = mapped(alloc, &TWO[..length])?;
-        let due = due(alloc, length)?;
+        let due = due(alloc, &TWO[..length])?;
         assert_eq!(rt;
             put.as_slice(),
             due.as_str().as_bytes(),

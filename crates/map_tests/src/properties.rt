@@ -6,12 +6,30 @@ use std::string::String;
 use std::test::Fail;
 use std::vec::Vec;
 
-/// A description whose four bodies take what is put in.
-const WHOLE: &[u8] = b"addrmap a { regfile { reg { field {} f; } c; } r; };";
-
-/// The letter of a kind, and where the body of its component begins in `WHOLE`: address map, register file, register,
-/// field (`p`, a part of a register).
-const BODIES: [(u8, usize); 4] = [(b'a', 12), (b'f', 22), (b'r', 28), (b'p', 35)];
+/// The letter of a kind, and a description up to where the body of its component begins, and from there on: address map,
+/// register file, register, field (`p`, a part of a register).
+const BODIES: [(u8, &str, &str); 4] = [
+    (
+        b'a',
+        "addrmap a { ",
+        "regfile { reg { field {} f; } c; } r; };",
+    ),
+    (
+        b'f',
+        "addrmap a { regfile { ",
+        "reg { field {} f; } c; } r; };",
+    ),
+    (
+        b'r',
+        "addrmap a { regfile { reg { ",
+        "field {} f; } c; } r; };",
+    ),
+    (
+        b'p',
+        "addrmap a { regfile { reg { field {",
+        "} f; } c; } r; };",
+    ),
+];
 
 /// The letters of the kinds that have the property of the first assignment, the assignments, and bits, policy and reset
 /// of the field under them; or the code of the refusal that the first of them gets there.
@@ -213,17 +231,22 @@ p|stickybit=1;|106\n\
 |f;|\n\
 ";
 
-/// The description with the assignments at an offset.
-fn with(alloc: Global, offset: usize, assignments: &[u8]) -> Result<Vec<u8>, AllocError> {
-    let mut text = WHOLE[..offset].to_vec(alloc)?;
+/// The description with the assignments in the body.
+fn with(
+    alloc: Global,
+    before: &[u8],
+    assignments: &[u8],
+    behind: &[u8],
+) -> Result<Vec<u8>, AllocError> {
+    let mut text = before.to_vec(alloc)?;
     text.extend_from_slice(assignments)?;
-    text.extend_from_slice(&WHOLE[offset..])?;
+    text.extend_from_slice(behind)?;
     Ok(text)
 }
 
-/// What is due in a body that begins at an offset, of a kind that has the property or not.
-fn due(alloc: Global, has: bool, offset: usize, answer: &str) -> Result<String, AllocError> {
-    let column = offset + 1;
+/// What is due in the body behind a text, of a kind that has the property or not.
+fn due(alloc: Global, has: bool, before: &[u8], answer: &str) -> Result<String, AllocError> {
+    let column = before.len() + 1;
     if !has {
         format!(in alloc; "refused 105 a.rdl:1:{column} RdlProperty\n")
     } else if answer == "106" {
@@ -243,16 +266,17 @@ fn each_property_is_right_in_its_kinds_alone(rt: HostRuntime) -> Result<(), Fail
             parts.next(),
             parts.next(),
         ) {
-            for (kind, offset) in BODIES {
-                let text = with(alloc, offset, assignments)?;
+            for (kind, before, behind) in BODIES {
+                let before = before.as_bytes();
+                let text = with(alloc, before, assignments, behind.as_bytes())?;
                 let (_, put) = mapped(alloc, text.as_slice())?;
                 let has = kinds.contains(&kind);
-                let due = due(alloc, has, offset, std::str::from_utf8(answer)?)?;
+                let due = due(alloc, has, before, std::str::from_utf8(answer)?)?;
                 let shown = std::str::from_utf8(row)?;
                 assert_eq!(rt;
                     put.as_slice(),
                     due.as_str().as_bytes(),
-                    "of {shown} at {offset}"
+                    "of {shown} in the body of {kind}"
                 );
             }
         }
